@@ -1,5 +1,5 @@
 -- Pieces of texts between boundaries.
-use Rattle.std.proofs.Common.{◌≡◌, ℕ, ◌<◌, ◌≤◌, ◌-◌, ◌||◌, nat_lt, nat_le, List, length, take, drop, None, true, slice_range, slice_index, arith}
+use Rattle.std.proofs.Common.{◌≡◌, ℕ, ◌≤◌, ◌-◌, ◌||◌, nat_lt, nat_le, List, length, drop, None, true, slice_range, slice_index, arith}
 use Rattle.std.proofs.lemmas.Bool.Decides.{nat_tests}
 use Rattle.std.specs.Str.{is_utf8, IsAscii, IsCharBoundary}
 use Rattle.std.proofs.lemmas.Str.{IsUtf8-from_is_utf8, IsUtf8-between, IsUtf8-from_ascii, IsAscii-take, IsAscii-drop}

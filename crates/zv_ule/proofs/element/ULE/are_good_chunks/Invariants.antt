@@ -1,4 +1,4 @@
-use Rattle.std.proofs.Common.{◌≡◌, ℕ, ◌-◌, ◌*◌, ◌≤◌, length, true, None}
+use Rattle.std.proofs.Common.{◌≡◌, ◌-◌, ◌*◌, ◌≤◌, length, true, None}
 use Rattle.zv_ule.specs.Chunks.{first_fault, chunks}
 use Rattle.zv_ule.proofs.element.ULE.are_good_chunks.Given as goal
 
