@@ -15,8 +15,14 @@ use crate::kind::{ZvKind, ZvOrd};
 use crate::slices::SliceULE;
 use crate::text::StrULE;
 
-/// Lists of values and byte strings: a byte string without a fault is one list, a list has one
-/// byte string, and the fault is that of the length, else that of the first bad chunk.
+/// Lists of values and the byte strings that they are stored as:
+///
+/// - `exact`: a byte string has no fault exactly where it is the joined chunks of some values;
+/// - `only`: these values are the ones that are read from it;
+/// - `chunk`, `back`: what a value is stored as is a good chunk, which is read as the value;
+/// - `one_chunk`: no other good chunk is read as the value;
+/// - `uneven`: where the length is no multiple of the width, the fault is `InvalidLength` with it;
+/// - `first`: else the fault is that of the first chunk that has one.
 pub fn fixed_lists<T: AsULE>()
     requires { IsTrue T.usable }
     ensures exact { (bytes : List ℕ) → IsBytes bytes →
