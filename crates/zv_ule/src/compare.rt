@@ -5,8 +5,8 @@ ghost use Rattle.std.specs.Ordering.{nat_cmp};
 
 use std::cmp::Ordering;
 
-/// The order of byte strings, byte by byte. It is written out so that a search has it inlined,
-/// where std's is a call.
+/// The order of byte strings, byte by byte; where one is the start of the other, the longer is
+/// greater. It is written out so that a search has it inlined, where that of slices is a call.
 #[inline(always)]
 pub fn compare_bytes(a: &[u8], b: &[u8]) -> Ordering
     ensures order { result ≡ slice_cmp nat_cmp a.now b.now }

@@ -1,4 +1,4 @@
-use Rattle.std.proofs.Common.{◌≡◌, ℕ, ◌+◌, ◌-◌, ◌/◌, length, arith}
+use Rattle.std.proofs.Common.{◌≡◌, ℕ, ◌+◌, ◌-◌, ◌/◌, length, arith, ◌∙◌}
 use Rattle.zv_ule.proofs.ChunkFaults.{good_more, mul_step}
 use Rattle.zv_ule.proofs.element.ULE.are_good_chunks.Goals as goal
 
@@ -8,7 +8,5 @@ loop-turn-preserved g c =
     let more : n - c.loop-turn.turn ≡ n - (c.loop-turn.turn + 1) + 1 = omega arith in
     record {
       left = omega (arith, mul_step c.size-width.result _ _ more);
-      same = λ both later.
-          let p = good_more c.size-width.result (n - c.loop-turn.turn) (n - (c.loop-turn.turn + 1)) g.Self.ULE.chunk_fault c.loop-turn.rest.now c.split_at.result.0.now c.split_at.result.1.now c.loop-turn.good c.is_good_chunk-good.result more c.split_at.ensures.front c.split_at.ensures.back c.is_good_chunk-good.ensures both later in
-          c.loop-turn.invariant.same p.0 p.1;
+      same = good_more c.size-width.result (n - c.loop-turn.turn) (n - (c.loop-turn.turn + 1)) g.Self.ULE.chunk_fault c.loop-turn.rest.now c.split_at.result.0.now c.split_at.result.1.now c.loop-turn.good c.is_good_chunk-good.result more c.split_at.ensures.front c.split_at.ensures.back c.is_good_chunk-good.ensures ∙ c.loop-turn.invariant.same;
     }
