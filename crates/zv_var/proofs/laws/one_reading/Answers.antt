@@ -10,7 +10,8 @@ returns c = record {
   one_encoding = λ w b c xs p h k. encoding_from_Parts w b c xs p h k;
   sound_exactly = λ w K b p h. (
     (λ f. (elements w b, Part_from_fault w K b p h f, valid_from_fault w K b p h f)),
-    (λ s. fault_from_Part w K b s.0 p s.1 s.2));
+    (λ s. fault_from_Part w K b s.0 p s.1 s.2),
+  );
   reads_back = λ w b xs p h. elements_from_Part w b xs p h;
   none_wrong = λ w K b p h f. (Part_from_fault w K b p h f, valid_from_fault w K b p h f);
   names_least = λ w K b f h. least_of_list w K b f h;

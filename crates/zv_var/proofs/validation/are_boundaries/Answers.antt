@@ -1,4 +1,4 @@
-use Rattle.std.proofs.Common.{◌≡◌, ℕ, ◌+◌, ◌-◌, arith, true}
+use Rattle.std.proofs.Common.{◌≡◌, ◌+◌, ◌-◌, arith, true}
 use Rattle.zv_var.proofs.Rising.{boundaries_more, and_parts}
 use Rattle.zv_var.proofs.Turns.{mul_step}
 use Rattle.zv_var.proofs.validation.are_boundaries.Goals as goal

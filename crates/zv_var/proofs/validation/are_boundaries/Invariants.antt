@@ -1,4 +1,4 @@
-use Rattle.std.proofs.Common.{◌≡◌, ℕ, ◌-◌, ◌*◌, ◌≤◌, length, true}
+use Rattle.std.proofs.Common.{◌≡◌, ◌-◌, ◌*◌, ◌≤◌, length, true}
 use Rattle.std.specs.List.{AllByRecursion}
 use Rattle.zv_var.specs.Format.{fields}
 use Rattle.zv_var.proofs.validation.are_boundaries.Given as goal

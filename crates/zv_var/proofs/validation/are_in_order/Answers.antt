@@ -1,4 +1,4 @@
-use Rattle.std.proofs.Common.{◌≡◌, ℕ, ◌+◌, ◌-◌, arith}
+use Rattle.std.proofs.Common.{◌≡◌, ◌+◌, ◌-◌, arith}
 use Rattle.zv_var.specs.Format.{fields}
 use Rattle.zv_var.specs.Order.{in_order}
 use Rattle.zv_var.proofs.Rising.{order_more}
