@@ -1,8 +1,9 @@
-// What the format means: worked examples, and laws.
+//! What the format means: worked examples, and laws. Each call does nothing, and its contract is
+//! what it is for.
 ghost use Rattle.zv_var.specs.Laws.{NamesLeast, NoneWrong, OneEncoding, OneList, ReadsBack, SoundExactly};
 ghost use Rattle.zv_var.specs.Examples.{CountOfZeroIsEmpty, CountOfZeroIsSound, CutCountIsRefused, CutLengthIsNoPart, CutPartIsNoPart, CutStartsAreRefused, EarlierFaultIsNamed, FallingStartIsRefused, FourTextsAreEncoded, FourTextsAreRead, FourTextsAreSound, FramedPartIsTaken, LargeCountIsRefused, LargestOfTwoBytes, NoBytesAreSound, NoElementsAreNoBytes, PartIsFramed, StartPastEndIsRefused, TwoTextsInFourByteFields, TwoTextsInOneByteFields, TwoTextsInTwoByteFields};
 
-/// Small lists whose encodings are written out, by hand, byte for byte. The call does nothing.
+/// Small lists, and their encodings byte for byte.
 pub fn lists_by_hand()
     ensures four_texts_written { FourTextsAreEncoded }
     ensures four_texts_read { FourTextsAreRead }
@@ -14,7 +15,7 @@ pub fn lists_by_hand()
     ensures no_elements { NoElementsAreNoBytes }
 {}
 
-/// Bytes at the edges of the format, with their faults. The call does nothing.
+/// Bytes at the edges of the format, and their faults.
 pub fn faults_by_hand()
     ensures no_bytes { NoBytesAreSound }
     ensures count_of_zero_sound { CountOfZeroIsSound }
@@ -27,7 +28,7 @@ pub fn faults_by_hand()
     ensures earlier_fault { EarlierFaultIsNamed }
 {}
 
-/// Small parts in their frames. The call does nothing.
+/// A small part in its frame, and bytes that are no whole part.
 pub fn frames_by_hand()
     ensures part_framed { PartIsFramed }
     ensures part_taken { FramedPartIsTaken }
@@ -35,8 +36,8 @@ pub fn frames_by_hand()
     ensures cut_part { CutPartIsNoPart }
 {}
 
-/// Bytes and lists determine each other in every format, and bytes are refused exactly where they
-/// are the form of no list of valid elements. The call does nothing; its contract is the laws.
+/// In every format, bytes and lists determine each other, bytes are refused exactly where they are
+/// the form of no list of valid elements, and the fault that is named is that of the least place.
 pub fn one_reading()
     ensures one_list { OneList }
     ensures one_encoding { OneEncoding }

@@ -1,4 +1,7 @@
-// The test of a list: all elements at one look, and one after another.
+//! The test of a list: all elements at one look, or one after another.
+//!
+//! Throughout, `indices` begins with as many starts as `starts` says, and `things` are the bytes of
+//! the elements.
 ghost use Rattle.std.specs.Prelude.{◌≡◌, ℕ, ◌*◌, ◌≤◌, List, [], ◌∷◌, ◌++◌, length, true, None, IsTrue};
 ghost use Rattle.std.specs.Result.{result_err};
 ghost use Rattle.std.specs.List.{AllByRecursion};
@@ -9,8 +12,8 @@ use crate::error::VarZeroVecFormatError;
 use zv_ule::format::{VarZeroVecFormat, read_start};
 use zv_ule::kind::ZvKind;
 
-/// Whether the elements are known to be sound, by a look at all their bytes at once and at their
-/// starts. `false` claims nothing.
+/// Whether the list is known to have no fault, by a look at all elements' bytes at once and at the
+/// starts. `false` claims nothing: then `check_elements` decides.
 pub(crate) fn are_sound<T: ZvKind, F: VarZeroVecFormat>(
     starts: usize,
     indices: &[u8],
@@ -18,7 +21,8 @@ pub(crate) fn are_sound<T: ZvKind, F: VarZeroVecFormat>(
 ) -> bool
     requires usable { IsTrue T.usable }
     requires room { F.W * starts ≤ length indices.now }
-    ensures { IsTrue result → elements_fault T.fault things.now 0 (fields F.W starts indices.now ++ length things.now ∷ []) ≡ None }
+    ensures { IsTrue result → elements_fault T.fault things.now 0
+        (fields F.W starts indices.now ++ length things.now ∷ []) ≡ None }
 {
     if !are_in_order::<F>(starts, indices, things.len()) {
         return false;
@@ -40,15 +44,14 @@ fn are_in_order<F: VarZeroVecFormat>(starts: usize, indices: &[u8], end: usize) 
     requires { F.W * starts ≤ length indices.now }
     ensures { result ≡ in_order 0 (fields F.W starts indices.now) end }
 {
-    // A flag in place of an early return, and `u32`: so the compiler compares several starts at
-    // once.
+    // With a flag in place of an early return, and `u32`, the compiler compares several at once.
     let mut good = true;
     let mut start = 0u32;
     let mut rest = indices;
     for _i in 0..starts {
         let (field, after) = rest.split_at(F::W);
         let next = read_start::<F>(field) as u32;
-        good = good & (start <= next);
+        good &= start <= next;
         start = next;
         rest = after;
     }
@@ -63,19 +66,21 @@ fn are_boundaries<T: ZvKind, F: VarZeroVecFormat>(
 ) -> bool
     requires usable { IsTrue T.usable }
     requires room { F.W * starts ≤ length indices.now }
-    ensures { IsTrue result → AllByRecursion (λ at. T.boundary things.now at ≡ true) (fields F.W starts indices.now) }
+    ensures { IsTrue result → AllByRecursion (λ at. T.boundary things.now at ≡ true)
+        (fields F.W starts indices.now) }
 {
     let mut good = true;
     let mut rest = indices;
     for _i in 0..starts {
         let (field, after) = rest.split_at(F::W);
-        good = good & T::is_boundary(things, read_start::<F>(field));
+        good &= T::is_boundary(things, read_start::<F>(field));
         rest = after;
     }
     good
 }
 
-/// Checks each element: that it lies within the bytes, and that it is valid.
+/// Checks each element in turn, that it lies within the bytes and is valid, and names the first
+/// fault.
 pub(crate) fn check_elements<T: ZvKind, F: VarZeroVecFormat>(
     starts: usize,
     indices: &[u8],
@@ -83,7 +88,8 @@ pub(crate) fn check_elements<T: ZvKind, F: VarZeroVecFormat>(
 ) -> Result<(), VarZeroVecFormatError>
     requires usable { IsTrue T.usable }
     requires room { F.W * starts ≤ length indices.now }
-    ensures { result_err result ≡ elements_fault T.fault things.now 0 (fields F.W starts indices.now ++ length things.now ∷ []) }
+    ensures { result_err result ≡ elements_fault T.fault things.now 0
+        (fields F.W starts indices.now ++ length things.now ∷ []) }
 {
     let mut start = 0;
     let mut rest = indices;
