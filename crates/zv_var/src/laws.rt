@@ -1,6 +1,6 @@
 //! What the format means: worked examples, and laws. Each call does nothing, and its contract is
 //! what it is for.
-ghost use Rattle.zv_var.specs.Laws.{NamesLeast, NoneWrong, OneEncoding, OneList, ReadsBack, SoundExactly};
+ghost use Rattle.zv_var.specs.Laws.{FramedIsTaken, NamesLeast, NoneWrong, OneEncoding, OneList, ReadsBack, SoundExactly};
 ghost use Rattle.zv_var.specs.Examples.{CountOfZeroIsEmpty, CountOfZeroIsSound, CutCountIsRefused, CutLengthIsNoPart, CutPartIsNoPart, CutStartsAreRefused, EarlierFaultIsNamed, FallingStartIsRefused, FourTextsAreEncoded, FourTextsAreRead, FourTextsAreSound, FramedPartIsTaken, LargeCountIsRefused, LargestOfTwoBytes, NoBytesAreSound, NoElementsAreNoBytes, PartIsFramed, StartPastEndIsRefused, TwoTextsInFourByteFields, TwoTextsInOneByteFields, TwoTextsInTwoByteFields};
 
 /// Small lists, and their encodings byte for byte.
@@ -45,4 +45,10 @@ pub fn one_reading()
     ensures reads_back { ReadsBack }
     ensures none_wrong { NoneWrong }
     ensures names_least { NamesLeast }
+{}
+
+/// Parts that were framed are taken again, one after another.
+#[tactic(auto, using(crate::proofs::Frames::first_part_of_framed))]
+pub fn framed_is_taken()
+    ensures { FramedIsTaken }
 {}
