@@ -1,0 +1,112 @@
+//! The test of a list: all elements at one look, or one after another.
+//!
+//! Throughout, `indices` begins with as many starts as `starts` says, and `things` are the bytes of
+//! the elements.
+ghost use Rattle.std.specs.Prelude.{◌≡◌, ℕ, ◌*◌, ◌≤◌, List, [], ◌∷◌, ◌++◌, length, true, None, IsTrue};
+ghost use Rattle.std.specs.Result.{result_err};
+ghost use Rattle.std.specs.List.{AllByRecursion};
+ghost use Rattle.zv_var.specs.Format.{elements_fault, fields};
+ghost use Rattle.zv_var.specs.Order.{in_order};
+
+use crate::error::VarZeroVecFormatError;
+use zv_ule::format::{VarZeroVecFormat, read_start};
+use zv_ule::kind::ZvKind;
+
+/// Whether the list is known to have no fault, by a look at all elements' bytes at once and at the
+/// starts. `false` claims nothing: then `check_elements` decides.
+pub(crate) fn are_sound<T: ZvKind, F: VarZeroVecFormat>(
+    starts: usize,
+    indices: &[u8],
+    things: &[u8],
+) -> bool
+    requires usable { IsTrue T.usable }
+    requires room { F.W * starts ≤ length indices.now }
+    ensures { IsTrue result → elements_fault T.fault things.now 0
+        (fields F.W starts indices.now ++ length things.now ∷ []) ≡ None }
+{
+    if !are_in_order::<F>(starts, indices, things.len()) {
+        return false;
+    }
+    if T::is_sound_everywhere(things) {
+        return true;
+    }
+    if !T::is_sound_between_boundaries(things)
+        || !T::is_boundary(things, 0)
+        || !T::is_boundary(things, things.len())
+    {
+        return false;
+    }
+    are_boundaries::<T, F>(starts, indices, things)
+}
+
+/// Whether the starts rise from 0 to at most the end.
+fn are_in_order<F: VarZeroVecFormat>(starts: usize, indices: &[u8], end: usize) -> bool
+    requires { F.W * starts ≤ length indices.now }
+    ensures { result ≡ in_order 0 (fields F.W starts indices.now) end }
+{
+    // With a flag in place of an early return, and `u32`, the compiler compares several at once.
+    let mut good = true;
+    let mut start = 0u32;
+    let mut rest = indices;
+    for _i in 0..starts {
+        let (field, after) = rest.split_at(F::W);
+        let next = read_start::<F>(field) as u32;
+        good &= start <= next;
+        start = next;
+        rest = after;
+    }
+    good & (start as usize <= end)
+}
+
+/// Whether each start is known to be a boundary of the elements' bytes. `false` claims nothing.
+fn are_boundaries<T: ZvKind, F: VarZeroVecFormat>(
+    starts: usize,
+    indices: &[u8],
+    things: &[u8],
+) -> bool
+    requires usable { IsTrue T.usable }
+    requires room { F.W * starts ≤ length indices.now }
+    ensures { IsTrue result → AllByRecursion (λ at. T.boundary things.now at ≡ true)
+        (fields F.W starts indices.now) }
+{
+    let mut good = true;
+    let mut rest = indices;
+    for _i in 0..starts {
+        let (field, after) = rest.split_at(F::W);
+        good &= T::is_boundary(things, read_start::<F>(field));
+        rest = after;
+    }
+    good
+}
+
+/// Checks each element in turn, that it lies within the bytes and is valid, and names the first
+/// fault.
+pub(crate) fn check_elements<T: ZvKind, F: VarZeroVecFormat>(
+    starts: usize,
+    indices: &[u8],
+    things: &[u8],
+) -> Result<(), VarZeroVecFormatError>
+    requires usable { IsTrue T.usable }
+    requires room { F.W * starts ≤ length indices.now }
+    ensures { result_err result ≡ elements_fault T.fault things.now 0
+        (fields F.W starts indices.now ++ length things.now ∷ []) }
+{
+    let mut start = 0;
+    let mut rest = indices;
+    for _i in 0..starts {
+        let (field, after) = rest.split_at(F::W);
+        let end = read_start::<F>(field);
+        if end < start || things.len() < end {
+            return Err(VarZeroVecFormatError::Metadata);
+        }
+        if let Err(e) = T::check(&things[start..end]) {
+            return Err(VarZeroVecFormatError::Values(e));
+        }
+        start = end;
+        rest = after;
+    }
+    if let Err(e) = T::check(&things[start..]) {
+        return Err(VarZeroVecFormatError::Values(e));
+    }
+    Ok(())
+}
