@@ -1,0 +1,12 @@
+//! XXH64, the 64-bit digest of the xxHash specification, over bytes that come in pieces.
+#![tactic(auto)]
+
+pub mod hasher;
+mod lanes;
+mod pending;
+mod tail;
+#[cfg(test)]
+mod tests;
+mod words;
+
+pub use hasher::XxHash64;
