@@ -1,0 +1,11 @@
+pub mod Ascents
+pub mod Flat
+pub mod Frames
+pub mod Numbers
+pub mod OnlyImage
+pub mod Orders
+pub mod Places
+pub mod Sound
+pub mod Standing
+pub mod Texts
+pub mod Worked
