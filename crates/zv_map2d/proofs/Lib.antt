@@ -4,8 +4,11 @@ pub mod Frames
 pub mod Numbers
 pub mod OnlyImage
 pub mod Orders
+pub mod Parsed
 pub mod Places
+pub mod Seen
 pub mod Sound
+pub mod Spelled
 pub mod Standing
 pub mod Texts
 pub mod Worked

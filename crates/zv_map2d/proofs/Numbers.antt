@@ -1,11 +1,10 @@
 -- The numbers of a joiner.
-use Rattle.std.proofs.Common.{◌≡◌, ℕ, zero, suc, ◌+◌, ◌*◌, ◌/◌, ◌%◌, ◌<◌, ◌≤◌, Bool, true, false, not, cond, eqb, List, [], ◌∷◌, length, take, drop, get_or, map, Option, Some, None, refl, sym, ◌∙◌, ap, arith, add-one, nat_lt, ◌&&◌, length-drop}
+use Rattle.std.proofs.Common.{◌≡◌, ℕ, zero, suc, ◌+◌, ◌*◌, ◌/◌, ◌%◌, ◌<◌, ◌≤◌, Bool, true, false, not, cond, eqb, List, [], ◌∷◌, length, take, drop, get_or, map, Some, None, refl, ◌∙◌, ap, arith, add-one, nat_lt, ◌&&◌, length-drop}
 use Rattle.std.proofs.Math.Seq.{drop-cons}
 use Rattle.std.proofs.lemmas.List.{length-take-le}
 use Rattle.std.specs.Int.{w32, from_le_bytes}
 use Rattle.zv_ule.specs.Bytes.{number}
 use Rattle.zv_ule.specs.Chunks.{chunks, chunks_of, first_fault, chunks_fault}
-use Rattle.zv_ule.specs.declared.error.UleError.{UleError}
 use Rattle.zv_ule.specs.declared.error.UleError.TheVariants.{InvalidLength}
 use Rattle.zv_ule.specs.declared.error.TyName.TheVariants.{RawBytes4}
 use Rattle.zv_var.specs.Format.{fields}

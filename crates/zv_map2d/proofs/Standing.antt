@@ -1,6 +1,7 @@
 -- What images stand for.
 use Rattle.std.proofs.Common.{◌≡◌, ℕ, ◌^◌, ◌<◌, Bool, true, false, cond, List, [], ◌∷◌, length, Option, Some, None, Result, Ok, Err, refl, sym, ◌∙◌, ap, subst, inl}
 use Rattle.std.specs.List.{AllByRecursion}
+use Rattle.std.specs.Result.{result_err, IfOk}
 use Rattle.zv_ule.specs.Bytes.{IsBytes}
 use Rattle.zv_var.specs.Format.{enc, codable, Part}
 use Rattle.zv_map2d.specs.Keys.{Bytes}
@@ -9,6 +10,7 @@ use Rattle.zv_map2d.specs.Frame.{Parts, frame, unframe}
 use Rattle.zv_map2d.specs.Causes.{causes, first_cause, parts_fault, rows_of_parts}
 use Rattle.zv_map2d.specs.Image.{texts_to_bytes, IsTextMap, Stands, spelling, fault_of, fault, canon}
 use Rattle.zv_map2d.specs.Laws.{IsCodable}
+use Rattle.zv_map2d.specs.Views.{Map2d, map_of}
 use Rattle.zv_map2d.specs.declared.error.EditError.{EditError}
 use Rattle.zv_map2d.specs.declared.error.EditError.TheVariants.{Frame}
 use Rattle.zv_map2d.proofs.Frames.{unframe-frame, frame-unframe}
@@ -84,3 +86,9 @@ no_frame image bytes none =
       | Some p ↦ λ e. absurd (none p (frame-unframe image p bytes e).0)
     ] in
     by (unframe image) refl
+
+-- what reading an image gives
+pub map_stands : (image : List ℕ) (p : Parts) (r : Result Map2d EditError) → IsBytes image → Some p ≡ unframe image → result_err r ≡ parts_fault texts_to_bytes p → IfOk r (λ m. m ≡ map_of p) → IfOk r (λ m. Stands image m.rows)
+map_stands image p (Ok m) bytes e f same =
+    subst (λ (q : Map2d). Stands image q.rows) (sym same) (stands_parts image p bytes (sym e) (sym f))
+map_stands image p (Err x) bytes e f same = tt

@@ -1,25 +1,25 @@
 -- The parts of an image and the map that they spell.
-use Rattle.std.proofs.Common.{◌≡◌, ℕ, zero, suc, ◌+◌, ◌*◌, ◌/◌, ◌%◌, ◌^◌, ◌<◌, ◌≤◌, Bool, true, cond, eqb, List, [], ◌∷◌, ◌++◌, length, map, Option, Some, None, refl, sym, ◌∙◌, ap, subst, arith, length-append}
+use Rattle.std.proofs.Common.{◌≡◌, ℕ, ◌+◌, ◌*◌, ◌/◌, ◌%◌, ◌^◌, ◌<◌, Bool, true, cond, eqb, List, [], ◌∷◌, ◌++◌, length, map, Some, None, refl, sym, ◌∙◌, ap, subst, arith, length-append}
 use Rattle.std.proofs.lemmas.List.{length-map, append-nil}
 use Rattle.std.proofs.lemmas.Cmp.{nat_list_cmp_total}
 use Rattle.std.specs.List.{AllByRecursion, flat_map}
-use Rattle.zv_ule.specs.Bytes.{IsBytes, le}
+use Rattle.zv_ule.specs.Bytes.{le}
 use Rattle.zv_ule.specs.Chunks.{first_fault, chunks_of}
 use Rattle.zv_ule.specs.Kinds.{text_fault}
 use Rattle.zv_ule.specs.declared.error.TyName.TheVariants.{U8}
 use Rattle.zv_ule.specs.declared.error.UleError.TheVariants.{InvalidLength}
-use Rattle.zv_var.specs.Format.{fields, Part, list_fault}
+use Rattle.zv_var.specs.Format.{fields, Part}
 use Rattle.zv_var.proofs.Encoding.{from_codable}
 use Rattle.zv_var.proofs.Fields.{fields-le, length-flat_map-le}
 use Rattle.zv_var.proofs.Read.{Part_from_fault, valid_from_fault, fault_from_Part, elements_from_Part}
 use Rattle.zv_map2d.specs.Keys.{Bytes}
 use Rattle.zv_map2d.specs.Rows.{Rows, firsts, seconds, values, ends_from, ends, IsFlat}
 use Rattle.zv_map2d.specs.Frame.{Parts}
-use Rattle.zv_map2d.specs.Causes.{numbers, Lists, lists, parts_fault, rows_of_parts}
+use Rattle.zv_map2d.specs.Causes.{numbers, lists, parts_fault, rows_of_parts}
 use Rattle.zv_map2d.specs.Image.{by_bytes, bytes_fault, texts_to_bytes, AreTexts, IsTextMap, Spells}
 use Rattle.zv_map2d.proofs.Flat.{view_of}
 use Rattle.zv_map2d.proofs.Frames.{AreBytes}
-use Rattle.zv_map2d.proofs.Sound.{IsRead, AreFitting, fitting_of_flat, read_and_fitting, none_from_read, flat_parts, well_parts, joiner_parts}
+use Rattle.zv_map2d.proofs.Sound.{IsRead, fitting_of_flat, read_and_fitting, none_from_read, flat_parts, well_parts, joiner_parts}
 
 -- ---- from the parts to the map
 

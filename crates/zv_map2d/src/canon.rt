@@ -7,9 +7,8 @@ ghost use Rattle.zv_map2d.specs.Image.{spelling};
 
 use crate::map::ZeroMap2d;
 use crate::parts::Parts;
-use zv_ule::format::VarZeroVecFormat;
 use zv_ule::kind::{ZvKind, ZvOrd};
-use zv_var::slice::VarZeroSlice;
+use zv_var::slice::VarZeroSlice16;
 
 /// Each element of a slice is a byte. It does nothing.
 pub(crate) fn know_bytes(_bytes: &[u8])
@@ -17,8 +16,8 @@ pub(crate) fn know_bytes(_bytes: &[u8])
 {}
 
 /// The bytes that the list is written as: none for the empty list.
-fn canonical<'a, T: ZvKind, F: VarZeroVecFormat>(list: VarZeroSlice<'a, T, F>) -> &'a [u8]
-    ensures { result.now ≡ enc F.W (list_of list.entry) }
+fn canonical<'a, K: ZvKind>(list: VarZeroSlice16<'a, K>) -> &'a [u8]
+    ensures { result.now ≡ enc 2 (list_of list.entry) }
 {
     let bytes = list.as_bytes();
     know_bytes(bytes);

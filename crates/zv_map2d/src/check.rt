@@ -6,7 +6,7 @@ ghost use Rattle.zv_var.specs.Views.{list_of};
 ghost use Rattle.zv_map2d.specs.Causes.{Lists, is_cause, lists_fault};
 
 use crate::error::EditError;
-use crate::order::{keys_ascend, rows_ascend, top};
+use crate::order::{all_ascend, top};
 use zv_fixed::slice::ZeroSlice;
 use zv_ule::kind::{ZvKind, ZvOrd};
 use zv_var::slice::VarZeroSlice16;
@@ -34,7 +34,7 @@ pub(crate) fn check_lists<K0: ZvOrd, K1: ZvOrd, V: ZvKind>(
     if end as usize != pairs {
         return Err(EditError::JoinerEnd);
     }
-    if !keys_ascend(keys0.components()) || !rows_ascend(keys1.components(), joiner) {
+    if !all_ascend(keys0, joiner, keys1) {
         return Err(EditError::KeyOrder);
     }
     Ok(())

@@ -6,14 +6,14 @@
 
 mod canon;
 mod check;
-mod lookup;
-mod order;
-
 pub mod error;
 pub mod image;
 pub mod laws;
+mod lookup;
 pub mod map;
+mod order;
 pub mod parts;
+mod read;
 
 pub use error::EditError;
 pub use image::{cut_parts, parse_image};

@@ -46,7 +46,10 @@ impl<'a, K0: ZvOrd, K1: ZvOrd, V: ZvKind> ZeroMap2d<'a, K0, K1, V> {
         ensures { look_up K1.cmp (row_at self.now.rows row) (Q.bytes key.now) ≡ option_and_then (λ i. slice_get (values self.now.rows) i) result }
     {
         let start = self.row_start(row);
-        let found = self.keys1.binary_search_in_range(key, start..self.row_end(row))?;
+        let end = self.row_end(row);
+        let Some(found) = self.keys1.binary_search_in_range(key, start..end) else {
+            unreachable!();
+        };
         Some(start + found.ok()?)
     }
 

@@ -3,10 +3,12 @@ ghost use Rattle.std.specs.Prelude.{◌≡◌, ◌==◌, IfOk, IfErr, IsTrue, le
 ghost use Rattle.std.specs.Result.{result_err};
 ghost use Rattle.zv_map2d.specs.Causes.{is_cause, parts_fault};
 ghost use Rattle.zv_map2d.specs.Rows.{seconds};
+ghost use Rattle.zv_map2d.specs.Views.{map_of};
 
 use crate::check::check_lists;
 use crate::error::EditError;
 use crate::parts::Parts;
+use crate::read::{read_joiner, read_list};
 use std::marker::Model;
 use zv_fixed::slice::ZeroSlice;
 use zv_ule::kind::{ZvKind, ZvOrd};
@@ -53,13 +55,13 @@ impl<'a, K0: ZvOrd, K1: ZvOrd, V: ZvKind> ZeroMap2d<'a, K0, K1, V> {
         requires keys1 { IsTrue K1.usable }
         requires values { IsTrue V.usable }
         ensures error { result_err result ≡ parts_fault (record { fault0 = K0.fault; fault1 = K1.fault; fault2 = V.fault; order0 = K0.cmp; order1 = K1.cmp }) (record { keys0 = keys0.now; joiner = joiner.now; keys1 = keys1.now; values = values.now }) }
-        ensures parts { IfOk result (λ m. m.parts ≡ record { keys0 = keys0.now; joiner = joiner.now; keys1 = keys1.now; values = values.now }) }
+        ensures map { IfOk result (λ m. m ≡ map_of (record { keys0 = keys0.now; joiner = joiner.now; keys1 = keys1.now; values = values.now })) }
         ensures cause { IfErr result (λ e. IsTrue (is_cause e)) }
     {
-        let joiner = ZeroSlice::<'a, u32>::parse_bytes(joiner).map_err(EditError::Ule)?;
-        let keys0 = VarZeroSlice16::<'a, K0>::parse_bytes(keys0).map_err(EditError::Ule)?;
-        let keys1 = VarZeroSlice16::<'a, K1>::parse_bytes(keys1).map_err(EditError::Ule)?;
-        let values = VarZeroSlice16::<'a, V>::parse_bytes(values).map_err(EditError::Ule)?;
+        let joiner = read_joiner(joiner)?;
+        let keys0 = read_list(keys0)?;
+        let keys1 = read_list(keys1)?;
+        let values = read_list(values)?;
         check_lists(keys0, joiner, keys1, values)?;
         Ok(ZeroMap2d {
             keys0,
