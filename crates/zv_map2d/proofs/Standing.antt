@@ -1,18 +1,19 @@
 -- What images stand for.
 use Rattle.std.proofs.Common.{◌≡◌, ℕ, ◌^◌, ◌<◌, Bool, true, false, cond, List, [], ◌∷◌, length, Option, Some, None, Result, Ok, Err, refl, sym, ◌∙◌, ap, subst, inl}
+use Rattle.std.specs.Bool.{IsTrue}
 use Rattle.std.specs.List.{AllByRecursion}
-use Rattle.std.specs.Result.{result_err, IfOk}
+use Rattle.std.specs.Result.{result_err, IfOk, IfErr}
 use Rattle.zv_ule.specs.Bytes.{IsBytes}
 use Rattle.zv_var.specs.Format.{enc, codable, Part}
 use Rattle.zv_map2d.specs.Keys.{Bytes}
 use Rattle.zv_map2d.specs.Rows.{Rows, firsts, seconds, values}
 use Rattle.zv_map2d.specs.Frame.{Parts, frame, unframe}
-use Rattle.zv_map2d.specs.Causes.{causes, first_cause, parts_fault, rows_of_parts}
+use Rattle.zv_map2d.specs.Causes.{is_cause, is_parts_cause, causes, first_cause, parts_fault, rows_of_parts}
 use Rattle.zv_map2d.specs.Image.{texts_to_bytes, IsTextMap, Stands, spelling, fault_of, fault, canon}
 use Rattle.zv_map2d.specs.Laws.{IsCodable}
 use Rattle.zv_map2d.specs.Views.{Map2d, map_of}
 use Rattle.zv_map2d.specs.declared.error.EditError.{EditError}
-use Rattle.zv_map2d.specs.declared.error.EditError.TheVariants.{Frame}
+use Rattle.zv_map2d.specs.declared.error.EditError.TheVariants.{Frame, Ule, Keys0Joiner, Keys1Values, JoinerOrder, JoinerEnd, KeyOrder, Memory, Write}
 use Rattle.zv_map2d.proofs.Frames.{unframe-frame, frame-unframe}
 use Rattle.zv_map2d.proofs.Texts.{none_of_map, rows_of_map, map_parts, spelled_parts}
 
@@ -92,3 +93,23 @@ pub map_stands : (image : List ℕ) (p : Parts) (r : Result Map2d EditError) →
 map_stands image p (Ok m) bytes e f same =
     subst (λ (q : Map2d). Stands image q.rows) (sym same) (stands_parts image p bytes (sym e) (sym f))
 map_stands image p (Err x) bytes e f same = tt
+
+pub parts_frame : (image : List ℕ) (p : Parts) (r : Result Map2d EditError) → IsBytes image → Some p ≡ unframe image → IfOk r (λ m. m ≡ map_of p) → IfOk r (λ m. image ≡ frame m.parts)
+parts_frame image p (Ok m) bytes e same = (frame-unframe image p bytes (sym e)).0 ∙ ap (λ (q : Map2d). frame q.parts) (sym same)
+parts_frame image p (Err x) bytes e same = tt
+
+-- a cause that lies in the parts lies in the image
+in_image : (e : EditError) → IsTrue (is_parts_cause e) → IsTrue (is_cause e)
+in_image Frame h = refl
+in_image (Ule e) h = refl
+in_image Keys0Joiner h = refl
+in_image Keys1Values h = refl
+in_image JoinerOrder h = refl
+in_image JoinerEnd h = refl
+in_image KeyOrder h = refl
+in_image Memory h = h
+in_image Write h = h
+
+pub cause_lies : (r : Result Map2d EditError) → IfErr r (λ e. IsTrue (is_parts_cause e)) → IfErr r (λ e. IsTrue (is_cause e))
+cause_lies (Ok m) h = tt
+cause_lies (Err e) h = in_image e h

@@ -32,7 +32,7 @@ ends = (refl, refl)
 
 pub texts : Texts
 unfolding chars is_utf8 encode_utf8
-texts = (refl, refl, refl)
+texts = (refl, refl, refl, refl)
 
 pub counts : Counts
 unfolding chars is_utf8 encode_utf8

@@ -10,7 +10,7 @@ use Rattle.zv_map2d.specs.Keys.{Bytes, ascends}
 use Rattle.zv_map2d.specs.Rows.{Rows, rows_from}
 use Rattle.zv_map2d.specs.Frame.{Parts}
 use Rattle.zv_map2d.specs.declared.error.EditError.{EditError}
-use Rattle.zv_map2d.specs.declared.error.EditError.TheVariants.{Ule, Keys0Joiner, Keys1Values, JoinerOrder, JoinerEnd, KeyOrder, Memory, Write}
+use Rattle.zv_map2d.specs.declared.error.EditError.TheVariants.{Frame, Ule, Keys0Joiner, Keys1Values, JoinerOrder, JoinerEnd, KeyOrder, Memory, Write}
 
 -- the kinds of a map's elements: the errors of a first key, a second key and a value, and the orders of the keys
 pub record Kinds : Type 0 where
@@ -129,3 +129,8 @@ abbrev pub is_cause : EditError → Bool
 is_cause Memory = false
 is_cause Write = false
 is_cause e = true
+
+-- whether an error lies in the parts of an image
+abbrev pub is_parts_cause : EditError → Bool
+is_parts_cause Frame = false
+is_parts_cause e = is_cause e

@@ -85,10 +85,11 @@ Ends =
     (fault (zeros 16 ++ (3 ∷ zeros 7 ++ (1 ∷ 0 ∷ 98 ∷ 3 ∷ zeros 7 ++ (1 ∷ 0 ∷ 1 ∷ [])))) ≡ Some JoinerEnd)
     × (fault (image_of (two 97 98) (0 ∷ 0 ∷ 0 ∷ 0 ∷ 1 ∷ 0 ∷ 0 ∷ 0 ∷ []) (one 98) (one 1)) ≡ Some JoinerOrder)
 
--- a key that is no text; keys and values that are empty
+-- a first or second key that is no text; a value that is none; keys and values that are empty
 abbrev pub Texts : Type 0
 Texts =
     (fault (image_of (one 255) (1 ∷ 0 ∷ 0 ∷ 0 ∷ []) (one 98) (one 1)) ≡ Some parse_error)
+    × (fault (image_of (one 97) (1 ∷ 0 ∷ 0 ∷ 0 ∷ []) (one 255) (one 1)) ≡ Some parse_error)
     × (fault (image_of (one 97) (1 ∷ 0 ∷ 0 ∷ 0 ∷ []) (one 98) (one 255)) ≡ None)
     × (canon (([], ([], []) ∷ []) ∷ []) ≡ 2 ∷ zeros 7 ++ (1 ∷ 0 ∷ 4 ∷ zeros 7 ++ (1 ∷ 0 ∷ 0 ∷ 0 ∷ 2 ∷ zeros 7 ++ (1 ∷ 0 ∷ 2 ∷ zeros 7 ++ (1 ∷ 0 ∷ [])))))
 

@@ -3,7 +3,7 @@ ghost use Rattle.std.specs.Prelude.{◌≡◌, ℕ, IfErr, IsTrue, length};
 ghost use Rattle.std.specs.Result.{result_err};
 ghost use Rattle.zv_fixed.specs.Views.{values_in};
 ghost use Rattle.zv_var.specs.Views.{list_of};
-ghost use Rattle.zv_map2d.specs.Causes.{Lists, is_cause, lists_fault};
+ghost use Rattle.zv_map2d.specs.Causes.{Lists, is_parts_cause, lists_fault};
 
 use crate::error::EditError;
 use crate::order::{all_ascend, top};
@@ -19,7 +19,7 @@ pub(crate) fn check_lists<K0: ZvOrd, K1: ZvOrd, V: ZvKind>(
     values: VarZeroSlice16<'_, V>,
 ) -> Result<(), EditError>
     ensures error { result_err result ≡ lists_fault K0.cmp K1.cmp (record { keys0 = list_of keys0.entry; joiner = values_in joiner.entry; keys1 = list_of keys1.entry; values = list_of values.entry }) }
-    ensures cause { IfErr result (λ e. IsTrue (is_cause e)) }
+    ensures cause { IfErr result (λ e. IsTrue (is_parts_cause e)) }
 {
     let pairs = keys1.len();
     if keys0.len() != joiner.len() {

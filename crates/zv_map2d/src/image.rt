@@ -3,7 +3,7 @@ ghost use Rattle.std.specs.Prelude.{◌≡◌, IfOk, IfErr, IsTrue};
 ghost use Rattle.std.specs.Option.{option_map};
 ghost use Rattle.std.specs.Result.{result_err};
 ghost use Rattle.zv_map2d.specs.Causes.{is_cause};
-ghost use Rattle.zv_map2d.specs.Frame.{Parts as PartsSeen, unframe};
+ghost use Rattle.zv_map2d.specs.Frame.{Parts as PartsSeen, frame, unframe};
 ghost use Rattle.zv_map2d.specs.Image.{Stands, fault};
 
 use crate::canon::know_bytes;
@@ -45,6 +45,7 @@ pub fn parse_image<'a>(
 ) -> Result<ZeroMap2d<'a, StrULE, StrULE, SliceULE<u8>>, EditError>
     ensures error { result_err result ≡ fault image.now }
     ensures map { IfOk result (λ m. Stands image.now m.rows) }
+    ensures parts { IfOk result (λ m. image.now ≡ frame m.parts) }
     ensures cause { IfErr result (λ e. IsTrue (is_cause e)) }
 {
     know_bytes(image);

@@ -6,7 +6,6 @@ ghost use Rattle.zv_map2d.specs.Rows.{before, find, row, row_at, values};
 
 use crate::map::ZeroMap2d;
 use crate::order::number_at;
-use std::ops::Range;
 use zv_ule::argument::ZvOrdArg;
 use zv_ule::kind::{ZvKind, ZvOrd};
 use zv_ule::view::VarRef;

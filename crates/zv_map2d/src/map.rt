@@ -1,8 +1,9 @@
 // A map in two levels, read in place.
 ghost use Rattle.std.specs.Prelude.{◌≡◌, ◌==◌, IfOk, IfErr, IsTrue, length};
 ghost use Rattle.std.specs.Result.{result_err};
-ghost use Rattle.zv_map2d.specs.Causes.{is_cause, parts_fault};
-ghost use Rattle.zv_map2d.specs.Rows.{seconds};
+ghost use Rattle.zv_var.specs.Format.{elements};
+ghost use Rattle.zv_map2d.specs.Causes.{is_parts_cause, numbers, parts_fault};
+ghost use Rattle.zv_map2d.specs.Rows.{IsFlat, IsWell, seconds};
 ghost use Rattle.zv_map2d.specs.Views.{map_of};
 
 use crate::check::check_lists;
@@ -56,7 +57,9 @@ impl<'a, K0: ZvOrd, K1: ZvOrd, V: ZvKind> ZeroMap2d<'a, K0, K1, V> {
         requires values { IsTrue V.usable }
         ensures error { result_err result ≡ parts_fault (record { fault0 = K0.fault; fault1 = K1.fault; fault2 = V.fault; order0 = K0.cmp; order1 = K1.cmp }) (record { keys0 = keys0.now; joiner = joiner.now; keys1 = keys1.now; values = values.now }) }
         ensures map { IfOk result (λ m. m ≡ map_of (record { keys0 = keys0.now; joiner = joiner.now; keys1 = keys1.now; values = values.now })) }
-        ensures cause { IfErr result (λ e. IsTrue (is_cause e)) }
+        ensures lists { IfOk result (λ m. IsFlat (elements 2 keys0.now) (numbers joiner.now) (elements 2 keys1.now) (elements 2 values.now) m.rows) }
+        ensures well { IfOk result (λ m. IsWell K0.cmp K1.cmp m.rows) }
+        ensures cause { IfErr result (λ e. IsTrue (is_parts_cause e)) }
     {
         let joiner = read_joiner(joiner)?;
         let keys0 = read_list(keys0)?;
