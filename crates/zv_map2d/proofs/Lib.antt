@@ -1,0 +1,14 @@
+pub mod Ascents
+pub mod Flat
+pub mod Frames
+pub mod Numbers
+pub mod OnlyImage
+pub mod Orders
+pub mod Parsed
+pub mod Places
+pub mod Seen
+pub mod Sound
+pub mod Spelled
+pub mod Standing
+pub mod Texts
+pub mod Worked

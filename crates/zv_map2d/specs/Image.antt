@@ -1,0 +1,71 @@
+-- The image of a map from two texts to bytes: what it stands for, why it is refused, and its canonical form.
+use Rattle.std.specs.Prelude.{◌≡◌, ℕ, List, Option, Some, None, flat_map}
+use Rattle.std.specs.Cmp.Lexicographic.{slice_cmp}
+use Rattle.std.specs.List.{AllByRecursion}
+use Rattle.std.specs.Ordering.{nat_cmp}
+use Rattle.std.specs.declared.cmp.Ordering.{Ordering}
+use Rattle.zv_ule.specs.Bytes.{le}
+use Rattle.zv_ule.specs.Chunks.{chunks_fault}
+use Rattle.zv_ule.specs.Kinds.{text_fault}
+use Rattle.zv_ule.specs.declared.error.TyName.TheVariants.{U8}
+use Rattle.zv_ule.specs.declared.error.UleError.{UleError}
+use Rattle.zv_var.specs.Format.{enc, Part}
+use Rattle.zv_map2d.specs.Keys.{Bytes}
+use Rattle.zv_map2d.specs.Rows.{Rows, firsts, seconds, values, ends, IsWell}
+use Rattle.zv_map2d.specs.Frame.{Parts, frame, unframe}
+use Rattle.zv_map2d.specs.Causes.{Kinds, parts_fault}
+use Rattle.zv_map2d.specs.declared.error.EditError.{EditError}
+use Rattle.zv_map2d.specs.declared.error.EditError.TheVariants.{Frame}
+
+-- byte strings by their first difference, a prefix being below
+abbrev pub by_bytes : Bytes → Bytes → Ordering
+by_bytes = slice_cmp nat_cmp
+
+-- the error of bytes that are to be a slice of bytes: none
+abbrev pub bytes_fault : Bytes → Option UleError
+bytes_fault = chunks_fault U8 1 (λ b. None)
+
+-- maps from two texts to bytes
+abbrev pub texts_to_bytes : Kinds
+texts_to_bytes = record { fault0 = text_fault; fault1 = text_fault; fault2 = bytes_fault; order0 = by_bytes; order1 = by_bytes }
+
+-- each is a text
+abbrev pub AreTexts : List Bytes → Type 0
+AreTexts xs = AllByRecursion (λ x. text_fault x ≡ None) xs
+
+-- keys are texts that ascend, and no row is empty
+pub record IsTextMap (m : Rows) : Type 0 where
+  pub in_order : IsWell by_bytes by_bytes m
+  pub texts0 : AreTexts (firsts m)
+  pub texts1 : AreTexts (seconds m)
+
+-- the parts are spellings of the lists of the map
+pub record Spells (p : Parts) (m : Rows) : Type 0 where
+  pub keys0 : Part 2 p.keys0 (firsts m)
+  pub joiner : p.joiner ≡ flat_map (le 4) (ends m)
+  pub keys1 : Part 2 p.keys1 (seconds m)
+  pub values : Part 2 p.values (values m)
+
+-- the image stands for the map
+pub record Stands (image : List ℕ) (m : Rows) : Type 0 where
+  pub map : IsTextMap m
+  pub parts : Parts
+  pub formed : image ≡ frame parts
+  pub spelled : Spells parts m
+
+-- why an image with these parts is refused, or one that is no frame
+abbrev pub fault_of : Option Parts → Option EditError
+fault_of None = Some Frame
+fault_of (Some p) = parts_fault texts_to_bytes p
+
+-- why an image is refused
+abbrev pub fault : List ℕ → Option EditError
+fault image = fault_of (unframe image)
+
+-- the parts of the map's canonical image: no bytes for an empty list
+abbrev pub spelling : Rows → Parts
+spelling m = record { keys0 = enc 2 (firsts m); joiner = flat_map (le 4) (ends m); keys1 = enc 2 (seconds m); values = enc 2 (values m) }
+
+-- the map's canonical image
+abbrev pub canon : Rows → List ℕ
+canon m = frame (spelling m)

@@ -1,0 +1,10 @@
+pub mod Causes
+pub mod Frame
+pub mod Image
+pub mod ImageRows
+pub mod Keys
+pub mod Laws
+pub mod Locales
+pub mod Pairs
+pub mod Rows
+pub mod Views
