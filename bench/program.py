@@ -1,0 +1,103 @@
+#!/usr/bin/env python3
+"""Times the built program `zv` on large inputs: processor time and peak memory.
+
+    bench/program.py [RUNS]
+
+Build it first (`./zv edit < examples/locales.txt`). Inputs are made in a temporary folder. Each line says
+the least processor time of RUNS runs (5 by default) and the largest peak memory.
+"""
+import os
+import struct
+import subprocess
+import sys
+import tempfile
+
+TOP = os.path.dirname(os.path.dirname(os.path.abspath(__file__)))
+PROGRAM = os.path.join(TOP, "crates", "zv", "out", "zv")
+
+
+def variable(elements):
+    """A list of elements of any length, with fields of two bytes."""
+    if not elements:
+        return b""
+    out = struct.pack("<H", len(elements))
+    start = 0
+    for element in elements[:-1]:
+        start += len(element)
+        out += struct.pack("<H", start)
+    return out + b"".join(elements)
+
+
+def image(table):
+    """The image of a map of maps."""
+    firsts, ends, seconds, values = sorted(table), [], [], []
+    for first in firsts:
+        for second in sorted(table[first]):
+            seconds.append(second)
+            values.append(table[first][second])
+        ends.append(len(seconds))
+    joiner = b"".join(struct.pack("<I", end) for end in ends)
+    parts = [variable(firsts), joiner, variable(seconds), variable(values)]
+    return b"".join(struct.pack("<Q", len(part)) + part for part in parts)
+
+
+def field(data):
+    return b"x" + data.hex().encode()
+
+
+def gets(table, size):
+    """An image and `get` lines up to about `size` bytes; every fourth pair is not there."""
+    out = field(image(table)) + b"\n"
+    lines = []
+    for first in sorted(table):
+        for second in sorted(table[first]):
+            lines.append(b"get " + field(first) + b" " + field(second) + b"\n")
+            if len(lines) % 4 == 3:
+                lines.append(b"get " + field(first) + b" " + field(b"Zzzz") + b"\n")
+    block = b"".join(lines)
+    return out + block * max(1, (size - len(out)) // len(block))
+
+
+def measure(data, runs):
+    least, peak = None, 0
+    with tempfile.TemporaryDirectory() as folder:
+        path = os.path.join(folder, "input")
+        with open(path, "wb") as file:
+            file.write(data)
+        for _ in range(runs):
+            with open(path, "rb") as source, open(os.devnull, "wb") as sink:
+                child = subprocess.Popen([PROGRAM, "edit"], stdin=source, stdout=sink)
+                _, status, usage = os.wait4(child.pid, 0)
+                child.returncode = status
+            if status != 0:
+                sys.exit(f"the program ended with {status}")
+            time = usage.ru_utime + usage.ru_stime
+            least = time if least is None else min(least, time)
+            peak = max(peak, usage.ru_maxrss)
+    return least, peak
+
+
+def main():
+    runs = int(sys.argv[1]) if len(sys.argv) > 1 else 5
+    if not os.path.exists(PROGRAM):
+        sys.exit("build the program first: ./zv edit < examples/locales.txt")
+    small = {b"a": {b"b": b"\x01"}}
+    scripts = [b"Arab", b"Cyrl", b"Deva", b"Hans", b"Hant", b"Khoj", b"Latn"]
+    locales = {b"%c%c" % (97 + i // 26, 97 + i % 26): {s: b"US" for s in scripts} for i in range(400)}
+    long = {b"a": {b"b": b"\x07" * 4_000_000}}
+    inputs = [
+        ("1 MB of get lines, one pair", gets(small, 1_000_000)),
+        ("15 MB of get lines, one pair", gets(small, 15_000_000)),
+        ("1 MB of get lines, 2800 pairs", gets(locales, 1_000_000)),
+        ("15 MB of get lines, 2800 pairs", gets(locales, 15_000_000)),
+        ("a value of 4,000,000 bytes, no lines", field(image(long)) + b"\n"),
+    ]
+    print(f"{'input':40} {'bytes':>10} {'processor':>10} {'peak':>10} {'peak/input':>10}")
+    for name, data in inputs:
+        time, peak = measure(data, runs)
+        ratio = peak * 1024 / len(data)
+        print(f"{name:40} {len(data):10} {time * 1000:7.0f} ms {peak / 1024:7.1f} MB {ratio:9.1f}x")
+
+
+if __name__ == "__main__":
+    main()
