@@ -20,7 +20,8 @@ parted-append p r =
     let d : drop (length p) (p ++ r) ≡ r = drop_at p r (length p) refl in
     let l : length p ≤ length (p ++ r) = omega (arith, length-append p r) in
     let s : parted (length p) (p ++ r) ≡ Some (take (length p) (p ++ r), drop (length p) (p ++ r)) = grind arith in
-    s ∙ (ap (λ (f : List ℕ). Some (f, drop (length p) (p ++ r))) t ∙ ap (λ (b : List ℕ). Some (p, b)) d)
+    let e : Some (take (length p) (p ++ r), drop (length p) (p ++ r)) ≡ Some (p, r) = rw (t, d) refl in
+    s ∙ e
 
 -- A framed part is taken, whatever follows it.
 pub first_part_of_framed : (p r : List ℕ) → length p < 256 ^ 8 → first_part (framed p ++ r) ≡ Some (p, r)

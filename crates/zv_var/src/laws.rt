@@ -1,5 +1,5 @@
-//! What the format means: worked examples, and laws. Each call does nothing, and its contract is
-//! what it is for.
+// What the format means: worked examples, and laws. Each call does nothing, and its contract is
+// what it is for.
 ghost use Rattle.zv_var.specs.Laws.{FramedIsTaken, NamesLeast, NoneWrong, OneEncoding, OneList, ReadsBack, SoundExactly};
 ghost use Rattle.zv_var.specs.Examples.{CountOfZeroIsEmpty, CountOfZeroIsSound, CutCountIsRefused, CutLengthIsNoPart, CutPartIsNoPart, CutStartsAreRefused, EarlierFaultIsNamed, FallingStartIsRefused, FourTextsAreEncoded, FourTextsAreRead, FourTextsAreSound, FramedPartIsTaken, LargeCountIsRefused, LargestOfTwoBytes, NoBytesAreSound, NoElementsAreNoBytes, PartIsFramed, StartPastEndIsRefused, TwoTextsInFourByteFields, TwoTextsInOneByteFields, TwoTextsInTwoByteFields};
 

@@ -1,4 +1,4 @@
-//! Lists of texts, and lists of such lists.
+// Lists of texts, and lists of such lists.
 use crate::components::VarZeroVecComponents;
 use crate::error::VarZeroVecFormatError;
 use crate::frame::{part_len, take_part};

@@ -1,7 +1,7 @@
-//! The test of a list: all elements at one look, or one after another.
-//!
-//! Throughout, `indices` begins with as many starts as `starts` says, and `things` are the bytes of
-//! the elements.
+// The test of a list: all elements at one look, or one after another.
+//
+// Throughout, `indices` begins with as many starts as `starts` says, and `things` are the bytes of
+// the elements.
 ghost use Rattle.std.specs.Prelude.{◌≡◌, ℕ, ◌*◌, ◌≤◌, List, [], ◌∷◌, ◌++◌, length, true, None, IsTrue};
 ghost use Rattle.std.specs.Result.{result_err};
 ghost use Rattle.std.specs.List.{AllByRecursion};
