@@ -5,7 +5,6 @@ use Rattle.std.specs.Ordering.{is_lt}
 use Rattle.std.specs.declared.cmp.Ordering.{Ordering}
 use Rattle.zv_map2d.specs.Keys.{Bytes, nth, ascends}
 use Rattle.zv_map2d.specs.Causes.{climbs, last_of}
-use Rattle.zv_map2d.proofs.Numbers.{climbs_next, last_next}
 
 module _ {A : Type 0} where
   -- a range from its first element on
@@ -46,11 +45,9 @@ last_above n (e ∷ es) h =
     let k = last_above e es t.1 in
     omega (arith, t.0, k)
 
--- the i-th end of a climbing joiner
-pub end_within : (n i e top : ℕ) (ns : List ℕ) → i < length ns → e ≡ get_or ns i 0 → climbs n (drop i ns) ≡ true → last_of n (drop i ns) ≤ top → (n < e) × (e ≤ top) × (climbs e (drop (i + 1) ns) ≡ true)
-end_within n i e top ns h f c l =
-    let k : climbs n (e ∷ drop (i + 1) ns) ≡ true = rw f (sym (climbs_next ns n i h) ∙ c) in
-    let t = climbs_first n e (drop (i + 1) ns) k in
-    let a = last_above e (drop (i + 1) ns) t.1 in
-    let b : last_of n (drop i ns) ≡ last_of e (drop (i + 1) ns) = last_next ns n i h ∙ ap (λ (x : ℕ). last_of x (drop (i + 1) ns)) (sym f) in
-    (t.0, omega (arith, a, b, l), t.1)
+-- the next end of a climbing joiner
+pub end_within : (n e top : ℕ) (rest es : List ℕ) → rest ≡ e ∷ es → climbs n rest ≡ true → last_of n rest ≤ top → e ≤ top
+end_within n e top rest es next c l =
+    let t = climbs_first n e es (ap (λ (xs : List ℕ). climbs n xs) (sym next) ∙ c) in
+    let a = last_above e es t.1 in
+    omega (arith, a, l, ap (λ (xs : List ℕ). last_of n xs) next)

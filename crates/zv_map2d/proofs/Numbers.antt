@@ -1,6 +1,5 @@
 -- The numbers of a joiner.
-use Rattle.std.proofs.Common.{◌≡◌, ℕ, zero, suc, ◌+◌, ◌*◌, ◌/◌, ◌%◌, ◌<◌, ◌≤◌, Bool, true, false, not, cond, eqb, List, [], ◌∷◌, length, take, drop, get_or, map, Some, None, refl, ◌∙◌, ap, arith, add-one, nat_lt, ◌&&◌, length-drop}
-use Rattle.std.proofs.Math.Seq.{drop-cons}
+use Rattle.std.proofs.Common.{◌≡◌, ℕ, zero, suc, ◌*◌, ◌/◌, ◌%◌, ◌≤◌, Bool, true, false, not, cond, eqb, List, [], ◌∷◌, length, take, drop, map, Some, None, refl, ◌∙◌, ap, arith, length-drop}
 use Rattle.std.proofs.lemmas.List.{length-take-le}
 use Rattle.std.specs.Int.{w32, from_le_bytes}
 use Rattle.zv_ule.specs.Bytes.{number}
@@ -8,7 +7,7 @@ use Rattle.zv_ule.specs.Chunks.{chunks, chunks_of, first_fault, chunks_fault}
 use Rattle.zv_ule.specs.declared.error.UleError.TheVariants.{InvalidLength}
 use Rattle.zv_ule.specs.declared.error.TyName.TheVariants.{RawBytes4}
 use Rattle.zv_var.specs.Format.{fields}
-use Rattle.zv_map2d.specs.Causes.{numbers, climbs, last_of}
+use Rattle.zv_map2d.specs.Causes.{numbers}
 
 -- the number that four bytes spell
 four : (b : List ℕ) → length b ≡ 4 → from_le_bytes w32 b ≡ number b
@@ -39,13 +38,3 @@ pub joiner_fault : (b : List ℕ) → chunks_fault RawBytes4 4 (λ c. None) b �
 joiner_fault b =
     let by : (t : Bool) → cond t (first_fault (λ c. None) (chunks_of 4 b)) (Some (InvalidLength RawBytes4 (length b))) ≡ cond (not t) (Some (InvalidLength RawBytes4 (length b))) None = elim [ true ↦ none_wrong (chunks_of 4 b) | false ↦ refl ] in
     by (eqb (length b % 4) 0)
-
--- one number more, from place i on
-pub drop_next : (ns : List ℕ) (i : ℕ) → i < length ns → drop i ns ≡ get_or ns i 0 ∷ drop (i + 1) ns
-drop_next ns i h = rw (add-one, drop-cons ns i 0) refl
-
-pub climbs_next : (ns : List ℕ) (n i : ℕ) → i < length ns → climbs n (drop i ns) ≡ (nat_lt n (get_or ns i 0) && climbs (get_or ns i 0) (drop (i + 1) ns))
-climbs_next ns n i h = ap (λ (xs : List ℕ). climbs n xs) (drop_next ns i h)
-
-pub last_next : (ns : List ℕ) (n i : ℕ) → i < length ns → last_of n (drop i ns) ≡ last_of (get_or ns i 0) (drop (i + 1) ns)
-last_next ns n i h = ap (λ (xs : List ℕ). last_of n xs) (drop_next ns i h)

@@ -11,9 +11,11 @@ use zv_ule::kind::{ZvKind, ZvOrd};
 use zv_var::slice::VarZeroSlice16;
 
 /// Each element of a slice is a byte. It does nothing.
-pub(crate) fn know_bytes(_bytes: &[u8])
-    ensures { IsBytes _bytes.now }
-{}
+pub(crate) fn know_bytes(bytes: &[u8])
+    ensures { IsBytes bytes.now }
+{
+    let _ = bytes;
+}
 
 /// The bytes that the list is written as: none for the empty list.
 fn canonical<'a, K: ZvKind>(list: VarZeroSlice16<'a, K>) -> &'a [u8]

@@ -22,8 +22,7 @@ pub(crate) fn top(joiner: ZeroSlice<'_, u32>) -> Option<u32>
     ensures { result ≡ cond (climbs 0 (values_in joiner.entry)) (Some (last_of 0 (values_in joiner.entry))) None }
 {
     let mut last = 0;
-    for index in 0..joiner.len() {
-        let end = number_at(joiner, index);
+    for end in joiner.iter() {
         if end <= last {
             return None;
         }
@@ -88,8 +87,8 @@ fn rows_ascend<K: ZvOrd>(keys: VarZeroSlice16<'_, K>, joiner: ZeroSlice<'_, u32>
 {
     let keys = keys.components();
     let mut start = 0;
-    for index in 0..joiner.len() {
-        let end = number_at(joiner, index) as usize;
+    for end in joiner.iter() {
+        let end = end as usize;
         if !range_ascends(keys, start, end) {
             return false;
         }
