@@ -40,7 +40,11 @@ fn try_case(rt: &impl Abort, alloc: Global, case: &Case, piece: usize) -> Result
     let mut sink = MemSink::new(alloc, ROOM, 0, &[])?;
     let status = run(alloc, &words, &mut source, &mut sink);
     assert_eq!(rt; status, case.status, "{name}, in pieces of {piece}");
-    assert_eq!(rt; sink.taken(), output.as_slice(), "{name}, in pieces of {piece}");
+    assert_eq!(rt;
+        sink.taken(),
+        output.as_slice(),
+        "{name}, in pieces of {piece}"
+    );
     Ok(())
 }
 
