@@ -1,0 +1,291 @@
+// Worked inputs of the program and what it answers, over devices in memory.
+use zv_tool::Status;
+
+/// A run: its words, its input and output in pieces, and how it ends.
+pub struct Case {
+    pub name: &'static str,
+    pub words: &'static [&'static str],
+    pub input: &'static [&'static str],
+    pub output: &'static [&'static str],
+    pub status: Status,
+}
+
+/// The image of four empty parts.
+pub const EMPTY: &str = "0000000000000000000000000000000000000000000000000000000000000000";
+
+/// The image of the one pair of "a" and "b", with the value 01.
+pub const PAIR: &str =
+    "030000000000000001006104000000000000000100000003000000000000000100620300000000000000010001";
+
+// The regions of 28 locales by language and script, in 487 bytes.
+const LOCALES: &str = "\
+    5b00000000000000150003000500070009000b000e0010001200140017001a001c001e0021002300250027002a002c00\
+    2f00617263617a6375656e66666772636b6b6b756b796c69666d616e6d6e706170616c736474677567756e72757a7975\
+    657a68\
+    5400000000000000020000000300000004000000050000000600000007000000080000000a0000000c0000000d000000\
+    0e0000000f00000010000000110000001400000015000000160000001700000018000000190000001c000000\
+    a8000000000000001c00040008000c001000140018001c002000240028002c003000340038003c004000440048004c00\
+    5000540058005c006000640068006c004e62617450616c6d41726162476c61675368617741646c6d4c696e6241726162\
+    4172616259657a69417261624c61746e4c696d624e6b6f6f4d6f6e674172616250686c70446576614b686f6a53696e64\
+    417261624379726c446576614172616248616e73426f706f48616e6248616e74\
+    70000000000000001c0002000400060008000a000c000e00100012001400160018001a001c001e002000220024002600\
+    28002a002c002e0030003200340036004a4f5359495242474742474e4752434e49514745434e5452494e474e434e504b\
+    434e494e494e494e504b4b5a4e504146434e545754575457";
+
+pub const CASES: [Case; 35] = [
+    Case {
+        name: "the empty image",
+        words: &["edit"],
+        input: &["x", EMPTY, "\n"],
+        output: &["image x", EMPTY, "\n"],
+        status: Status::Done,
+    },
+    Case {
+        name: "an empty list that is spelt as a count of 0",
+        words: &["edit"],
+        input: &["x040000000000000000000000000000000000000000000000000000000000000000000000\n"],
+        output: &["image x", EMPTY, "\n"],
+        status: Status::Done,
+    },
+    Case {
+        name: "look-ups of a pair, a second key that is missing, and a first key that is missing",
+        words: &["edit"],
+        input: &["x", PAIR, "\nget x61 x62\nget x61 x63\nget x62 x62\n"],
+        output: &["some x01\nnone\nnone\nimage x", PAIR, "\n"],
+        status: Status::Done,
+    },
+    Case {
+        name: "a look-up among 28 locales",
+        words: &["edit"],
+        input: &["x", LOCALES, "\nget x7364 x4b686f6a\n"],
+        output: &["some x494e\nimage x", LOCALES, "\n"],
+        status: Status::Done,
+    },
+    Case {
+        name: "digits in upper case",
+        words: &["edit"],
+        input: &["x", LOCALES, "\nget x7364 x4B686F6A\n"],
+        output: &["some x494e\nimage x", LOCALES, "\n"],
+        status: Status::Done,
+    },
+    Case {
+        name: "no LF after the last line",
+        words: &["edit"],
+        input: &["x", PAIR, "\nget x61 x62"],
+        output: &["some x01\nimage x", PAIR, "\n"],
+        status: Status::Done,
+    },
+    Case {
+        name: "no LF after the only line",
+        words: &["edit"],
+        input: &["x", EMPTY],
+        output: &["image x", EMPTY, "\n"],
+        status: Status::Done,
+    },
+    Case {
+        name: "31 bytes",
+        words: &["edit"],
+        input: &["x00000000000000000000000000000000000000000000000000000000000000\n"],
+        output: &["error frame\n"],
+        status: Status::BadImage,
+    },
+    Case {
+        name: "33 bytes",
+        words: &["edit"],
+        input: &["x000000000000000000000000000000000000000000000000000000000000000000\n"],
+        output: &["error frame\n"],
+        status: Status::BadImage,
+    },
+    Case {
+        name: "a joiner of three bytes, under keys that are no list",
+        words: &["edit"],
+        input: &["x010000000000000005030000000000000001000000000000000000000000000000000000\n"],
+        output: &["error length\n"],
+        status: Status::BadImage,
+    },
+    Case {
+        name: "first keys that are no list",
+        words: &["edit"],
+        input: &["x010000000000000005000000000000000000000000000000000000000000000000\n"],
+        output: &["error parse\n"],
+        status: Status::BadImage,
+    },
+    Case {
+        name: "a first key that is no UTF-8",
+        words: &["edit"],
+        input: &[
+            "x03000000000000000100ff04000000000000000100000003000000000000000100620300000000000000010001\n",
+        ],
+        output: &["error parse\n"],
+        status: Status::BadImage,
+    },
+    Case {
+        name: "a joiner without first keys",
+        words: &["edit"],
+        input: &[
+            "x000000000000000004000000000000000100000003000000000000000100620300000000000000010001\n",
+        ],
+        output: &["error keys0joiner\n"],
+        status: Status::BadImage,
+    },
+    Case {
+        name: "second keys without values",
+        words: &["edit"],
+        input: &[
+            "x030000000000000001006104000000000000000100000003000000000000000100620000000000000000\n",
+        ],
+        output: &["error keys1values\n"],
+        status: Status::BadImage,
+    },
+    Case {
+        name: "a joiner that begins with 0",
+        words: &["edit"],
+        input: &[
+            "x06000000000000000200010061620800000000000000000000000100000003000000000000000100620300000000000000010001\n",
+        ],
+        output: &["error joinerorder\n"],
+        status: Status::BadImage,
+    },
+    Case {
+        name: "second keys that no row has",
+        words: &["edit"],
+        input: &["x0000000000000000000000000000000003000000000000000100620300000000000000010001\n"],
+        output: &["error joinerend\n"],
+        status: Status::BadImage,
+    },
+    Case {
+        name: "second keys of one row that descend",
+        words: &["edit"],
+        input: &[
+            "x03000000000000000100610400000000000000020000000600000000000000020001007a610600000000000000020001000102\n",
+        ],
+        output: &["error keyorder\n"],
+        status: Status::BadImage,
+    },
+    Case {
+        name: "a line with one key",
+        words: &["edit"],
+        input: &["x", EMPTY, "\nget x61\n"],
+        output: &["error line 2\n"],
+        status: Status::BadLine,
+    },
+    Case {
+        name: "a line with three keys",
+        words: &["edit"],
+        input: &["x", EMPTY, "\nget x61 x62 x63\n"],
+        output: &["error line 2\n"],
+        status: Status::BadLine,
+    },
+    Case {
+        name: "another word",
+        words: &["edit"],
+        input: &["x", EMPTY, "\nget x61 x62\nfind x61 x62\n"],
+        output: &["error line 3\n"],
+        status: Status::BadLine,
+    },
+    Case {
+        name: "no input",
+        words: &["edit"],
+        input: &[""],
+        output: &["error line 1\n"],
+        status: Status::BadLine,
+    },
+    Case {
+        name: "an empty line",
+        words: &["edit"],
+        input: &["x", PAIR, "\n\nget x61 x62\n"],
+        output: &["error line 2\n"],
+        status: Status::BadLine,
+    },
+    Case {
+        name: "an empty first line",
+        words: &["edit"],
+        input: &["\nx", PAIR, "\n"],
+        output: &["error line 1\n"],
+        status: Status::BadLine,
+    },
+    Case {
+        name: "two spaces",
+        words: &["edit"],
+        input: &["x", PAIR, "\nget x61  x62\n"],
+        output: &["error line 2\n"],
+        status: Status::BadLine,
+    },
+    Case {
+        name: "a space at the end",
+        words: &["edit"],
+        input: &["x", PAIR, "\nget x61 x62 \n"],
+        output: &["error line 2\n"],
+        status: Status::BadLine,
+    },
+    Case {
+        name: "CR before LF",
+        words: &["edit"],
+        input: &["x", PAIR, "\nget x61 x62\r\n"],
+        output: &["error line 2\n"],
+        status: Status::BadLine,
+    },
+    Case {
+        name: "CR after the image",
+        words: &["edit"],
+        input: &["x", PAIR, "\r\n"],
+        output: &["error line 1\n"],
+        status: Status::BadLine,
+    },
+    Case {
+        name: "an odd number of digits",
+        words: &["edit"],
+        input: &["x", PAIR, "\nget x61 x6\n"],
+        output: &["error line 2\n"],
+        status: Status::BadLine,
+    },
+    Case {
+        name: "a wrong digit",
+        words: &["edit"],
+        input: &["x", PAIR, "\nget x61 x6g\n"],
+        output: &["error line 2\n"],
+        status: Status::BadLine,
+    },
+    Case {
+        name: "no mark before the digits",
+        words: &["edit"],
+        input: &["x", PAIR, "\nget 61 x62\n"],
+        output: &["error line 2\n"],
+        status: Status::BadLine,
+    },
+    Case {
+        name: "a key that is no UTF-8",
+        words: &["edit"],
+        input: &["x", PAIR, "\nget x61 x62\nget xff x62\n"],
+        output: &["error line 3\n"],
+        status: Status::BadLine,
+    },
+    Case {
+        name: "a bad line after a bad image",
+        words: &["edit"],
+        input: &["x00\nget x61\n"],
+        output: &["error line 2\n"],
+        status: Status::BadLine,
+    },
+    Case {
+        name: "no words",
+        words: &[],
+        input: &["x", EMPTY, "\n"],
+        output: &["usage: zv COMMAND\n"],
+        status: Status::Usage,
+    },
+    Case {
+        name: "a word too many",
+        words: &["edit", "more"],
+        input: &["x", EMPTY, "\n"],
+        output: &["usage: zv COMMAND\n"],
+        status: Status::Usage,
+    },
+    Case {
+        name: "another command",
+        words: &["edits"],
+        input: &["x", EMPTY, "\n"],
+        output: &["usage: zv COMMAND\n"],
+        status: Status::Usage,
+    },
+];

@@ -1,0 +1,7 @@
+//! Tests of the program over devices in memory.
+#![tactic(auto)]
+
+#[cfg(test)]
+mod cases;
+#[cfg(test)]
+mod tests;

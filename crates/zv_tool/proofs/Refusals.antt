@@ -1,0 +1,35 @@
+-- What the program owes for an image, by its fault.
+use Rattle.std.proofs.Common.{◌≡◌, List, ℕ, Some, None, ap, sym, subst}
+use Rattle.std.specs.Prelude.{MatchOption}
+use Rattle.std.specs.declared.option.Option.{Option}
+use Rattle.zv_map2d.specs.Image.{fault}
+use Rattle.zv_map2d.specs.declared.error.EditError.{EditError}
+use Rattle.zv_tool.specs.declared.command.Command.{Command}
+use Rattle.zv_tool.specs.declared.status.Status.TheVariants.{Done, BadImage}
+use Rattle.zv_tool.specs.Answers.{IsAnswer}
+use Rattle.zv_tool.specs.Output.{cause_line}
+use Rattle.zv_tool.specs.Program.{ImageText, status_of_fault, status_of_image}
+
+-- a text by the fault that is found, whatever the fault's definition
+text_by : (f g : Option EditError) (P : Type 0) (text : List ℕ) → f ≡ g → MatchOption g P (λ cause. text ≡ cause_line cause)
+    → MatchOption f P (λ cause. text ≡ cause_line cause)
+text_by f g P text is wanted = subst (λ (o : Option EditError). MatchOption o P (λ cause. text ≡ cause_line cause)) (sym is) wanted
+
+-- a refused image: the line of its fault
+pub refused_text : (image : List ℕ) (cs : List Command) (cause : EditError) (text : List ℕ) → fault image ≡ Some cause
+    → text ≡ cause_line cause → ImageText image cs text
+unfolding ImageText
+refused_text image cs cause text is same = text_by (fault image) (Some cause) (IsAnswer image cs text) text is same
+
+-- another: an answer
+pub sound_text : (image : List ℕ) (cs : List Command) (text : List ℕ) → fault image ≡ None → IsAnswer image cs text → ImageText image cs text
+unfolding ImageText
+sound_text image cs text is answer = text_by (fault image) None (IsAnswer image cs text) text is answer
+
+pub refused_status : (image : List ℕ) (cause : EditError) → fault image ≡ Some cause → status_of_image image ≡ BadImage
+unfolding status_of_image
+refused_status image cause is = ap status_of_fault is
+
+pub sound_status : (image : List ℕ) → fault image ≡ None → status_of_image image ≡ Done
+unfolding status_of_image
+sound_status image is = ap status_of_fault is

@@ -1,0 +1,54 @@
+-- What is written.
+use Rattle.std.specs.Prelude.{ℕ, List, [], ◌∷◌, ◌++◌, codes}
+use Rattle.std.specs.Fmt.{decimal}
+use Rattle.hex.specs.Hex.{encode_lower}
+use Rattle.zv_ule.specs.declared.error.UleError.TheVariants.{InvalidLength, ParseError}
+use Rattle.zv_map2d.specs.declared.error.EditError.{EditError}
+use Rattle.zv_map2d.specs.declared.error.EditError.TheVariants.{Frame, Ule, Keys0Joiner, Keys1Values, JoinerOrder, JoinerEnd, KeyOrder, Memory, Write}
+
+-- what a command answers: a value, or that there is none
+pub data Reply : Type 0 where
+  some : List ℕ → Reply
+  missing : Reply
+
+-- bytes as a field: `x` and their hex digits in lower case
+abbrev pub hex_field : List ℕ → List ℕ
+hex_field bytes = codes "x" ++ encode_lower bytes
+
+-- a text and LF
+abbrev pub line : List ℕ → List ℕ
+line text = text ++ 10 ∷ []
+
+-- a reply's line
+abbrev pub text : Reply → List ℕ
+text (some value) = line (codes "some " ++ hex_field value)
+text missing = line (codes "none")
+
+-- the line that names the first bad line
+abbrev pub bad_line : ℕ → List ℕ
+bad_line number = line (codes "error line " ++ decimal number)
+
+-- the word of a cause for which an image is refused; the other two errors have none
+abbrev pub cause_word : EditError → List ℕ
+cause_word Frame = codes "frame"
+cause_word (Ule (InvalidLength ty len)) = codes "length"
+cause_word (Ule (ParseError ty)) = codes "parse"
+cause_word Keys0Joiner = codes "keys0joiner"
+cause_word Keys1Values = codes "keys1values"
+cause_word JoinerOrder = codes "joinerorder"
+cause_word JoinerEnd = codes "joinerend"
+cause_word KeyOrder = codes "keyorder"
+cause_word Memory = []
+cause_word Write = []
+
+-- the line of a cause
+abbrev pub cause_line : EditError → List ℕ
+cause_line cause = line (codes "error " ++ cause_word cause)
+
+-- the line for words that are no command form
+abbrev pub usage_line : List ℕ
+usage_line = line (codes "usage: zv COMMAND")
+
+-- the line of an image
+abbrev pub image_line : List ℕ → List ℕ
+image_line image = line (codes "image " ++ hex_field image)

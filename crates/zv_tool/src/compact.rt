@@ -1,0 +1,82 @@
+// Bytes that are mostly few.
+ghost use Rattle.std.specs.Prelude.{◌≡◌, ◌≤◌, IfOk, take};
+
+use std::alloc::Global;
+use std::marker::Model;
+use zv_ule::NoMemory;
+
+/// The most bytes that stand in place. (12 are copied as two words that don't overlap; 14 would fit too, but are slower.)
+pub(crate) const IN_PLACE: usize = 12;
+
+// The vector is boxed so that either variant fits 16 bytes.
+#[derive(Drop)]
+enum Stored {
+    Few { len: u8, bytes: [u8; IN_PLACE] },
+    Many(Box<Vec<u8>>),
+}
+
+const _: () = prove!(size_of::<Stored>() == 16);
+
+/// Bytes that take 16 bytes of their own: up to 12 of them stand in place, and only more take memory.
+#[derive(Drop)]
+pub(crate) struct CompactBytes {
+    stored: Stored,
+}
+
+impl Model for CompactBytes {
+    ghost use Rattle.std.specs.Prelude.{List, ℕ};
+    ghost use Rattle.zv_tool.specs.Compact.{stored_bytes, IsSound};
+
+    ghost Value = { List ℕ };
+
+    ghost view = { λ b. stored_bytes b.stored };
+
+    ghost invariant = { λ b. IsSound b.stored };
+}
+
+impl CompactBytes {
+    /// A copy of bytes.
+    pub(crate) fn new(alloc: Global, bytes: &[u8]) -> Result<Self, NoMemory>
+        ensures { IfOk result (λ b. b ≡ bytes.now) }
+    {
+        if bytes.len() > IN_PLACE {
+            return CompactBytes::boxed(alloc, Vec::from_slice(alloc, bytes)?);
+        }
+        let mut place = [0u8; IN_PLACE];
+        place[..bytes.len()].copy_from_slice(bytes);
+        Ok(CompactBytes::in_place(place, bytes.len()))
+    }
+
+    /// The first bytes of an array.
+    pub(crate) fn in_place(bytes: [u8; IN_PLACE], len: usize) -> Self
+        requires { len ≤ IN_PLACE }
+        ensures { result ≡ take len bytes }
+    {
+        let len = len as u8;
+        CompactBytes {
+            stored: Stored::Few { len, bytes },
+        }
+    }
+
+    /// The bytes of a vector.
+    pub(crate) fn boxed(alloc: Global, bytes: Vec<u8>) -> Result<Self, NoMemory>
+        ensures { IfOk result (λ b. b ≡ bytes.items) }
+    {
+        match Box::new(alloc, bytes) {
+            Ok(bytes) => Ok(CompactBytes {
+                stored: Stored::Many(bytes),
+            }),
+            Err(_) => Err(NoMemory),
+        }
+    }
+
+    /// The bytes.
+    pub(crate) fn as_slice(&self) -> &[u8]
+        ensures { result.now ≡ self.now }
+    {
+        match &self.stored {
+            Stored::Few { len, bytes } => &bytes[..*len as usize],
+            Stored::Many(bytes) => bytes.as_slice(),
+        }
+    }
+}

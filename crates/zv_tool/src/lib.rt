@@ -1,0 +1,30 @@
+//! The outside of the program: where bytes come from and go to, what an input says, and what it is answered.
+#![tactic(auto)]
+
+mod command;
+mod commands;
+mod compact;
+mod device;
+mod edit;
+mod input;
+mod lines;
+mod memory;
+mod parse;
+mod program;
+mod real;
+mod replies;
+mod status;
+mod words;
+
+pub use command::{Command, KeyText, ValueBytes};
+pub use commands::{Commands, CommandsError, MAX_COMMANDS};
+pub use device::{Failed, Sink, Source};
+pub use edit::edit2d;
+pub use input::MAX_INPUT;
+pub use memory::{MemSink, MemSource};
+pub use program::run;
+pub use real::{StdSink, StdSource};
+pub use status::Status;
+pub use words::Words;
+pub use zv_map2d::{EditError, parse_image};
+pub use zv_ule::NoMemory;

@@ -1,0 +1,144 @@
+// The top call.
+ghost use Rattle.std.specs.Prelude.{◌≡◌, ◌⊎◌, ◌<◌, ◌≤◌, IsTrue, IsFalse, IfSome, length};
+ghost use Rattle.std.specs.Io.KnownBytes.{Appends, IsAtEnd};
+ghost use Rattle.zv_map2d.specs.Causes.{is_cause};
+ghost use Rattle.zv_tool.specs.Devices.{Rose, AppendsPrefix};
+ghost use Rattle.zv_tool.specs.Input.{spoken};
+ghost use Rattle.zv_tool.specs.Output.{bad_line, cause_line};
+ghost use Rattle.zv_tool.specs.Program.{is_edit, is_answer, is_silent, is_written, ImageText, InputText, WantedText, IsSound, IsWantedStatus, status_of_image, status_of_spoken, Sent, Written, CutShort};
+
+use crate::device::{Failed, Sink, Source};
+use crate::edit::edit2d;
+use crate::input::{MAX_INPUT, ReadError, read_input};
+use crate::parse::{InputError, Request, read_request};
+use crate::status::Status;
+use crate::words::Words;
+use std::alloc::Global;
+use zv_map2d::EditError;
+use zv_ule::UleError;
+
+// Writes a text.
+fn send<K: Sink>(sink: &mut K, text: &[u8], status: Status) -> Status
+    ensures { Sent result status text.now (K.taken sink.old) (K.taken sink.new) (K.faults sink.old) (K.faults sink.new) }
+{
+    match sink.write(text) {
+        Ok(()) => status,
+        Err(Failed) => Status::WriteFault,
+    }
+}
+
+// The line of a cause.
+fn cause_text(cause: EditError) -> &'static [u8]
+    requires { IsTrue (is_cause cause) }
+    ensures { result.now ≡ cause_line cause }
+{
+    match cause {
+        EditError::Frame => b"error frame\n",
+        EditError::Ule(UleError::InvalidLength { .. }) => b"error length\n",
+        EditError::Ule(UleError::ParseError { .. }) => b"error parse\n",
+        EditError::Keys0Joiner => b"error keys0joiner\n",
+        EditError::Keys1Values => b"error keys1values\n",
+        EditError::JoinerOrder => b"error joinerorder\n",
+        EditError::JoinerEnd => b"error joinerend\n",
+        EditError::KeyOrder => b"error keyorder\n",
+        EditError::Memory | EditError::Write => unreachable!(),
+    }
+}
+
+// Answers an image and commands.
+#[tactic(auto, using(crate::proofs::Refusals::sound_text, crate::proofs::Refusals::sound_status))]
+fn respond<K: Sink>(alloc: Global, said: &Request, sink: &mut K) -> Status
+    ensures written { IsTrue (is_answer result) → Written (ImageText said.now.image.items said.now.commands) (K.taken sink.old) (K.taken sink.new) }
+    ensures answer { IsTrue (is_answer result) → result ≡ status_of_image said.now.image.items }
+    ensures status { IsTrue (is_answer result) ⊎ (result ≡ Status.Memory) ⊎ (result ≡ Status.WriteFault) }
+    ensures memory { result ≡ Status.Memory → sink.new ≡ sink.old }
+    ensures cut { result ≡ Status.WriteFault → CutShort (ImageText said.now.image.items said.now.commands) (K.taken sink.old) (K.taken sink.new) }
+    ensures fault { result ≡ Status.WriteFault → Rose (K.faults sink.old) (K.faults sink.new) }
+{
+    match edit2d(alloc, &said.image, &said.commands, sink) {
+        Ok(()) => Status::Done,
+        Err(EditError::Memory) => Status::Memory,
+        Err(EditError::Write) => Status::WriteFault,
+        Err(cause) => send(sink, cause_text(cause), Status::BadImage),
+    }
+}
+
+// Names the first bad line.
+fn name_line<K: Sink>(alloc: Global, number: u64, sink: &mut K) -> Status
+    ensures written { IsTrue (is_answer result) → (result ≡ Status.BadLine) × Appends (K.taken sink.old) (K.taken sink.new) (bad_line number) }
+    ensures status { IsTrue (is_answer result) ⊎ (result ≡ Status.Memory) ⊎ (result ≡ Status.WriteFault) }
+    ensures memory { result ≡ Status.Memory → sink.new ≡ sink.old }
+    ensures cut { result ≡ Status.WriteFault → AppendsPrefix (K.taken sink.old) (K.taken sink.new) (bad_line number) }
+    ensures fault { result ≡ Status.WriteFault → Rose (K.faults sink.old) (K.faults sink.new) }
+{
+    let Ok(text) = format!(in alloc; "error line {number}\n") else {
+        return Status::Memory;
+    };
+    send(sink, text.as_bytes(), Status::BadLine)
+}
+
+// Answers an input, which is let go of before the answer is built.
+fn answer<K: Sink>(alloc: Global, input: Vec<u8>, sink: &mut K) -> Status
+    requires { length input.items ≤ MAX_INPUT }
+    ensures written { IsTrue (is_answer result) → Written (InputText input.items) (K.taken sink.old) (K.taken sink.new) }
+    ensures answer { IsTrue (is_answer result) → result ≡ status_of_spoken (spoken input.items) }
+    ensures status { IsTrue (is_answer result) ⊎ (result ≡ Status.Memory) ⊎ (result ≡ Status.WriteFault) }
+    ensures memory { result ≡ Status.Memory → sink.new ≡ sink.old }
+    ensures cut { result ≡ Status.WriteFault → CutShort (InputText input.items) (K.taken sink.old) (K.taken sink.new) }
+    ensures fault { result ≡ Status.WriteFault → Rose (K.faults sink.old) (K.faults sink.new) }
+{
+    let said = read_request(alloc, &input);
+    drop(input);
+    match said {
+        Ok(request) => respond(alloc, &request, sink),
+        Err(InputError::BadLine(number)) => name_line(alloc, number, sink),
+        Err(InputError::Memory) => Status::Memory,
+    }
+}
+
+// Whether the words are a command form.
+fn is_form(words: &Words) -> bool
+    ensures { result ≡ is_edit words.now }
+{
+    words.len() == 1 && words.get(0) == Some("edit")
+}
+
+/// All that the program does: reads the source to its end, answers to the sink, and says how it ended.
+///
+/// The one command form is `edit`. Line 1 of the input is `x` and an image in hex; each further line is `get F F`,
+/// where a field F is `x` and a UTF-8 key in hex. Lines end in LF, which may be missing after the last. All lines are
+/// checked before the image. The answer is `some xV` or `none` for each line, and `image xI`, the canonical image. A
+/// refusal is one line, `error line N`, or `error` and the word of the image's first fault.
+pub fn run<S: Source, K: Sink>(alloc: Global, words: &Words, source: &mut S, sink: &mut K) -> Status
+    // Where a text is due, it is the one that the words and the whole input want.
+    ensures written { IsTrue (is_written result) → Written (WantedText words.now (S.left source.old)) (K.taken sink.old) (K.taken sink.new) }
+    ensures status { IsTrue (is_written result) → IsWantedStatus words.now (S.left source.old) result }
+    ensures silent { IsTrue (is_silent result) → sink.new ≡ sink.old }
+    ensures cut { result ≡ Status.WriteFault → CutShort (WantedText words.now (S.left source.old)) (K.taken sink.old) (K.taken sink.new) }
+
+    // An answer is to the whole input.
+    ensures end { IsTrue (is_answer result) → IsAtEnd (S.left source.new) }
+
+    // A sound input is answered, unless something fails or memory is refused.
+    ensures complete { IsTrue (is_edit words.now) → IfSome (S.left source.old) (λ input. IsSound input →
+        (result ≡ Status.Done) ⊎ (result ≡ Status.Memory)
+        ⊎ Rose (S.faults source.old) (S.faults source.new) ⊎ Rose (K.faults sink.old) (K.faults sink.new)) }
+
+    // When each of the others comes.
+    ensures usage { result ≡ Status.Usage → IsFalse (is_edit words.now) }
+    ensures no_form { IsFalse (is_edit words.now) → (result ≡ Status.Usage) ⊎ (result ≡ Status.WriteFault) }
+    ensures untouched { IsFalse (is_edit words.now) → source.new ≡ source.old }
+    ensures read_fault { result ≡ Status.ReadFault → Rose (S.faults source.old) (S.faults source.new) }
+    ensures too_long { result ≡ Status.TooLong → IfSome (S.left source.old) (λ input. MAX_INPUT < length input) }
+    ensures write_fault { result ≡ Status.WriteFault → Rose (K.faults sink.old) (K.faults sink.new) }
+{
+    if !is_form(words) {
+        return send(sink, b"usage: zv COMMAND\n", Status::Usage);
+    }
+    match read_input(alloc, source) {
+        Ok(input) => answer(alloc, input, sink),
+        Err(ReadError::Fault) => Status::ReadFault,
+        Err(ReadError::TooLong) => Status::TooLong,
+        Err(ReadError::Memory) => Status::Memory,
+    }
+}
