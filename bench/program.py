@@ -3,16 +3,20 @@
 
     bench/program.py [RUNS]
 
-Build it first (`./zv edit < examples/locales.txt`). Inputs are made in a temporary folder. Each line says
-the least processor time of RUNS runs (5 by default) and the largest peak memory.
+Build it first (`./zv edit < examples/locales.txt`), and have GNU time (Debian's package `time`). Inputs are
+made in a temporary folder. Each line says the least processor time of RUNS runs (5 by default) and the
+largest peak memory.
 """
 import os
+import resource
 import struct
 import subprocess
 import sys
 import tempfile
 
 TOP = os.path.dirname(os.path.dirname(os.path.abspath(__file__)))
+# A child begins with the peak memory of the process that it was forked from, so a small one measures.
+TIME = "/usr/bin/time"
 PROGRAM = os.path.join(TOP, "crates", "zv", "out", "zv")
 
 
@@ -61,24 +65,26 @@ def gets(table, size):
 def measure(data, runs):
     least, peak = None, 0
     with tempfile.TemporaryDirectory() as folder:
-        path = os.path.join(folder, "input")
+        path, told = os.path.join(folder, "input"), os.path.join(folder, "told")
         with open(path, "wb") as file:
             file.write(data)
+        command = [TIME, "-f", "%M", "-o", told, PROGRAM, "edit"]
         for _ in range(runs):
-            with open(path, "rb") as source, open(os.devnull, "wb") as sink:
-                child = subprocess.Popen([PROGRAM, "edit"], stdin=source, stdout=sink)
-                _, status, usage = os.wait4(child.pid, 0)
-                child.returncode = status
-            if status != 0:
-                sys.exit(f"the program ended with {status}")
-            time = usage.ru_utime + usage.ru_stime
+            before = resource.getrusage(resource.RUSAGE_CHILDREN)
+            with open(path, "rb") as source:
+                subprocess.run(command, stdin=source, stdout=subprocess.DEVNULL, check=True)
+            after = resource.getrusage(resource.RUSAGE_CHILDREN)
+            time = after.ru_utime - before.ru_utime + after.ru_stime - before.ru_stime
             least = time if least is None else min(least, time)
-            peak = max(peak, usage.ru_maxrss)
+            with open(told) as file:
+                peak = max(peak, int(file.read()))
     return least, peak
 
 
 def main():
     runs = int(sys.argv[1]) if len(sys.argv) > 1 else 5
+    if not os.path.exists(TIME):
+        sys.exit(f"{TIME} is not there: install Debian's package `time`")
     if not os.path.exists(PROGRAM):
         sys.exit("build the program first: ./zv edit < examples/locales.txt")
     small = {b"a": {b"b": b"\x01"}}
