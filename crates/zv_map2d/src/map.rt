@@ -86,14 +86,14 @@ impl<'a, K0: ZvOrd, K1: ZvOrd, V: ZvKind> ZeroMap2d<'a, K0, K1, V> {
         }
     }
 
-    /// How many first keys there are.
+    /// How many first keys there are. It reads a count.
     pub fn rows(&self) -> usize
         ensures { result ≡ length self.now.rows }
     {
         self.keys0.len()
     }
 
-    /// How many pairs of keys there are.
+    /// How many pairs of keys there are. It reads a count.
     pub fn len(&self) -> usize
         ensures { result ≡ length (seconds self.now.rows) }
     {
