@@ -69,7 +69,7 @@ TwoRows =
     × (canon two_rows ≡ image_of (two 97 98) (1 ∷ 0 ∷ 0 ∷ 0 ∷ 2 ∷ 0 ∷ 0 ∷ 0 ∷ []) (two 122 97) (two 1 2))
     × (fault (image_of (one 97) (2 ∷ 0 ∷ 0 ∷ 0 ∷ []) (two 122 97) (two 1 2)) ≡ Some KeyOrder)
 
--- no frame
+-- a byte too few, a byte too many, and a length that is more than is left
 abbrev pub NoFrame : Type 0
 NoFrame = (fault (zeros 31) ≡ Some Frame) × (fault (zeros 33) ≡ Some Frame) × (fault (replicate 8 255 ++ (16 ∷ 16 ∷ 16 ∷ zeros 32)) ≡ Some Frame)
 
@@ -85,7 +85,7 @@ Ends =
     (fault (zeros 16 ++ (3 ∷ zeros 7 ++ (1 ∷ 0 ∷ 98 ∷ 3 ∷ zeros 7 ++ (1 ∷ 0 ∷ 1 ∷ [])))) ≡ Some JoinerEnd)
     × (fault (image_of (two 97 98) (0 ∷ 0 ∷ 0 ∷ 0 ∷ 1 ∷ 0 ∷ 0 ∷ 0 ∷ []) (one 98) (one 1)) ≡ Some JoinerOrder)
 
--- a first or second key that is no text; a value that is none; keys and values that are empty
+-- a first or second key that is no text, and a value that is none, which is fine; keys and values that are empty
 abbrev pub Texts : Type 0
 Texts =
     (fault (image_of (one 255) (1 ∷ 0 ∷ 0 ∷ 0 ∷ []) (one 98) (one 1)) ≡ Some parse_error)
@@ -93,7 +93,7 @@ Texts =
     × (fault (image_of (one 97) (1 ∷ 0 ∷ 0 ∷ 0 ∷ []) (one 98) (one 255)) ≡ None)
     × (canon (([], ([], []) ∷ []) ∷ []) ≡ 2 ∷ zeros 7 ++ (1 ∷ 0 ∷ 4 ∷ zeros 7 ++ (1 ∷ 0 ∷ 0 ∷ 0 ∷ 2 ∷ zeros 7 ++ (1 ∷ 0 ∷ 2 ∷ zeros 7 ++ (1 ∷ 0 ∷ [])))))
 
--- counts that differ
+-- as many ends as first keys, and as many values as second keys, but for one
 abbrev pub Counts : Type 0
 Counts =
     (fault (image_of [] (1 ∷ 0 ∷ 0 ∷ 0 ∷ []) (one 98) (one 1)) ≡ Some Keys0Joiner)

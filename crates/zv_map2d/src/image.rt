@@ -39,7 +39,7 @@ pub fn cut_parts(image: &[u8]) -> Option<Parts<'_>>
 /// The map from two texts to bytes that an image stands for, read in the image's own bytes.
 ///
 /// The first cause in the order of [`EditError`]'s variants is told; it is never `Memory` or `Write`.
-/// One pass over the image; it takes no memory.
+/// It costs what [`ZeroMap2d::parse_parts`] does and takes no memory.
 pub fn parse_image<'a>(
     image: &'a [u8],
 ) -> Result<ZeroMap2d<'a, StrULE, StrULE, SliceULE<u8>>, EditError>

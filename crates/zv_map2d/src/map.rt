@@ -45,7 +45,8 @@ impl<'a, K0: ZvOrd, K1: ZvOrd, V: ZvKind> ZeroMap2d<'a, K0, K1, V> {
     /// `keys0`, `keys1` and `values` are lists with fields of two bytes; an empty list is no bytes or a count of 0 with anything
     /// after it. `joiner` has for each row the number of pairs up to its end, as four bytes, the lowest first.
     /// The first cause in the order of [`EditError`]'s variants is told; it is never `Frame`, `Memory` or `Write`.
-    /// One pass over the bytes; it takes no memory, and the map keeps the given bytes.
+    /// Each element is looked at once for its kind, and each key once more for its order. It takes no memory, and the map keeps
+    /// the given bytes.
     pub fn parse_parts(
         keys0: &'a [u8],
         joiner: &'a [u8],
@@ -86,14 +87,14 @@ impl<'a, K0: ZvOrd, K1: ZvOrd, V: ZvKind> ZeroMap2d<'a, K0, K1, V> {
         }
     }
 
-    /// How many first keys there are.
+    /// How many first keys there are. It reads a count.
     pub fn rows(&self) -> usize
         ensures { result ≡ length self.now.rows }
     {
         self.keys0.len()
     }
 
-    /// How many pairs of keys there are.
+    /// How many pairs of keys there are. It reads a count.
     pub fn len(&self) -> usize
         ensures { result ≡ length (seconds self.now.rows) }
     {
