@@ -1,8 +1,7 @@
 -- The first line of a text, and the first word of a line, by the first byte of a kind.
-use Rattle.std.proofs.Common.{◌≡◌, ℕ, zero, suc, ◌+◌, ◌-◌, ◌<◌, ◌≤◌, ◌==◌, List, [], ◌∷◌, length, get_or, take, drop, Bool, true, false, refl, ◌∙◌, sym, ap, arith, add-one}
+use Rattle.std.proofs.Common.{◌≡◌, ℕ, zero, suc, ◌+◌, ◌-◌, ◌<◌, ◌≤◌, ◌==◌, List, [], ◌∷◌, length, get_or, take, drop, Bool, true, false, refl, arith, add-one}
 use Rattle.std.proofs.lemmas.List.{take_rest}
-use Rattle.std.specs.Prelude.{if◌then◌else◌}
-use Rattle.zv_tool.specs.Input.{lines, words, onto_first}
+use Rattle.zv_tool.specs.Input.{lines, words}
 
 -- a test that is not true is false
 is_false : (t : Bool) → (t ≡ true → ⊥) → t ≡ false

@@ -1,5 +1,5 @@
 -- Commands one after another.
-use Rattle.std.proofs.Common.{◌≡◌, ℕ, ◌+◌, List, [], ◌∷◌, ◌++◌, refl, sym, ◌∙◌, ap, Some, None, Ok, Err, append_assoc}
+use Rattle.std.proofs.Common.{◌≡◌, ℕ, ◌+◌, List, [], ◌∷◌, ◌++◌, refl, sym, ap, Some, Ok, Err, append_assoc}
 use Rattle.std.specs.Prelude.{Result}
 use Rattle.zv_tool.specs.Input.{lines, words, commands, command_of, command_and}
 use Rattle.zv_tool.specs.declared.command.Command.{Command}

@@ -1,5 +1,5 @@
 -- A command is no larger than its line.
-use Rattle.std.proofs.Common.{◌≡◌, ◌⊎◌, ℕ, ◌+◌, ◌*◌, ◌≤◌, ◌<◌, ◌==◌, List, [], ◌∷◌, length, Bool, true, false, inl, inr, refl, sym, ◌∙◌, ap, arith, Some, None, Ok, Err, codes}
+use Rattle.std.proofs.Common.{◌≡◌, ◌⊎◌, ℕ, ◌+◌, ◌*◌, ◌≤◌, ◌==◌, List, [], ◌∷◌, length, Bool, true, false, inl, inr, refl, ◌∙◌, ap, arith, Some, None, Ok, Err, codes}
 use Rattle.std.specs.Prelude.{if◌then◌else◌, sum_by, Result, bytes_eq}
 use Rattle.std.specs.Str.{is_utf8}
 use Rattle.std.specs.Result.{result_ok}

@@ -17,7 +17,7 @@ use zv_var::frame::part_len;
 type ImageMap<'a> = ZeroMap2d<'a, StrULE, StrULE, SliceULE<u8>>;
 
 // How many bytes are written as hex at once.
-const PIECE: usize = 256;
+const PIECE: usize = 64;
 
 // Adds the hex digits of bytes.
 fn push_hex(out: &mut Vec<u8>, bytes: &[u8]) -> Result<(), NoMemory>

@@ -1,4 +1,4 @@
-use Rattle.std.proofs.Common.{◌≡◌, ◌∷◌, List, sym, rules}
+use Rattle.std.proofs.Common.{◌≡◌, ◌∷◌, sym, rules}
 use Rattle.zv_tool.specs.Input.{words}
 use Rattle.zv_tool.proofs.Keys.{four_words}
 use Rattle.zv_tool.proofs.parse.read_command.Goals as goal

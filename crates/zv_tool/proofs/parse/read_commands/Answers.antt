@@ -1,9 +1,9 @@
-use Rattle.std.proofs.Common.{◌≡◌, ◌∷◌, ◌++◌, [], ◌∙◌, ap, Some, arith, rules, length}
+use Rattle.std.proofs.Common.{◌≡◌, ◌∷◌, ◌++◌, [], ◌∙◌, ap, Some, arith, rules}
 use Rattle.std.proofs.lemmas.List.Sums.{sum_by_push}
-use Rattle.zv_tool.specs.Input.{words, lines, commands, command_of}
+use Rattle.zv_tool.specs.Input.{words, command_of}
 use Rattle.zv_tool.specs.Commands.{total_size, command_size}
 use Rattle.zv_tool.proofs.Sizes.{command_fits}
-use Rattle.zv_tool.proofs.Parsing.{after_all, one_more_command}
+use Rattle.zv_tool.proofs.Parsing.{one_more_command}
 use Rattle.zv_tool.proofs.parse.read_commands.Goals as goal
 
 pub keep-requires : goal.keep-requires

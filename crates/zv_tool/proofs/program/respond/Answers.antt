@@ -1,4 +1,4 @@
-use Rattle.std.proofs.Common.{rules, ◌≡◌, ◌⊎◌, ◌∙◌, inl, inr, Some, sym, ap}
+use Rattle.std.proofs.Common.{rules, ◌≡◌, ◌∙◌, inl, inr, Some, sym}
 use Rattle.zv_map2d.specs.Image.{fault}
 use Rattle.zv_tool.specs.Program.{ImageText, Sent}
 use Rattle.zv_tool.specs.declared.status.Status.TheVariants.{BadImage}

@@ -1,5 +1,4 @@
-use Rattle.std.proofs.Common.{rules, arith, ◌≡◌, ◌++◌, length, sym}
-use Rattle.std.proofs.lemmas.List.{take-append-drop}
+use Rattle.std.proofs.Common.{rules, ◌≡◌, ◌++◌, length}
 use Rattle.hex.specs.Hex.{encode_lower}
 use Rattle.zv_tool.proofs.HexText.{one_more_piece, nothing_left}
 use Rattle.zv_tool.proofs.replies.push_hex.Goals as goal
