@@ -1,9 +1,10 @@
--- How numbers of every width are stored, and that they read back: the laws that their impls give.
-use Rattle.std.proofs.Common.{◌≡◌, ℕ, zero, suc, ◌+◌, ◌*◌, ◌/◌, ◌%◌, ◌^◌, ◌<◌, ◌≤◌, List, [], ◌∷◌, length, drop, None, refl, ap, sym, ◌∙◌, arith, slice_index, subst}
+-- Numbers of two, eight and sixteen bytes and signed numbers, stored and read back: the laws that their impls give.
+use Rattle.std.proofs.Common.{◌≡◌, ℕ, zero, suc, ◌+◌, ◌*◌, ◌/◌, ◌%◌, ◌^◌, ◌<◌, List, [], ◌∷◌, length, drop, None, refl, ap, sym, ◌∙◌, arith, slice_index, subst}
 use Rattle.std.proofs.Math.Nat.{div-div-eq-div-mul, pow-suc}
 use Rattle.std.proofs.Math.Seq.{drop-cons}
-use Rattle.std.proofs.lemmas.Nat.{mod_below}
+use Rattle.std.proofs.lemmas.List.{drop_all}
 use Rattle.std.proofs.lemmas.Int.{to_z-of_z, of_z-to_z}
+use Rattle.std.proofs.lemmas.Nat.{mod_below}
 use Rattle.std.proofs.Math.Facts.{Fits-of_z, sfits_to_z, Fits-of_lt}
 use Rattle.std.specs.Int.{Width, w8, w16, w64, w128, byte_at, byte_worth, bytes_low_first, sum_through, to_le_bytes, from_le_bytes, cast_signed, cast_unsigned}
 use Rattle.std.specs.Prelude.{ℤ, FitsSigned}
@@ -41,16 +42,10 @@ downward b (suc k) h =
     let power = ap (λ p. p * above) (pow-suc 256 (suc k)) in
     omega (arith, ih, here, parts, power)
 
-drop_whole : (b : List ℕ) (k : ℕ) → length b ≤ k → drop k b ≡ []
-drop_whole [] zero h = refl
-drop_whole [] (suc k) h = refl
-drop_whole (x ∷ b) zero h = absurd (omega (arith, h))
-drop_whole (x ∷ b) (suc k) h = drop_whole b k (omega (arith, h))
-
 -- what the bytes of a number of k + 1 bytes are read as
 read_all : (b : List ℕ) (k : ℕ) → length b ≡ suc k → sum_through (λ i. byte_worth i (slice_index b i)) k ≡ number b
 read_all b k h =
-    let none : drop (suc k) b ≡ [] = drop_whole b (suc k) (omega (arith, h)) in
+    let none : drop (suc k) b ≡ [] = drop_all (suc k) b (omega (arith, h)) in
     let empty = ap (λ l. 256 ^ suc k * number l) none in
     omega (arith, downward b k (omega (arith, h)), empty)
 
@@ -73,13 +68,15 @@ number_twin k =
       again = λ u h. ap (λ b. record { 0 = b }) (written (sum_through (λ i. byte_worth i (slice_index u.0 i)) k) ∙ ap (le (suc k)) (read_all u.0 k h.long) ∙ le-number_at (suc k) u.0 h.long h.each);
     }
 
--- a number of 16 bits is two bytes, and so on
+-- a number of 16 bits is two bytes
 pub u16_twin : IsTwin {V = ℕ} {U = RawBytesULE 2} (λ v. v < 2 ^ 16) (λ u. IsRaw 2 u.0) (λ v. record { 0 = to_le_bytes w16 v }) (λ u. from_le_bytes w16 u.0)
 u16_twin = number_twin 1
 
+-- a number of 64 bits is eight
 pub u64_twin : IsTwin {V = ℕ} {U = RawBytesULE 8} (λ v. v < 2 ^ 64) (λ u. IsRaw 8 u.0) (λ v. record { 0 = to_le_bytes w64 v }) (λ u. from_le_bytes w64 u.0)
 u64_twin = number_twin 7
 
+-- a number of 128 bits is sixteen
 pub u128_twin : IsTwin {V = ℕ} {U = RawBytesULE 16} (λ v. v < 2 ^ 128) (λ u. IsRaw 16 u.0) (λ v. record { 0 = to_le_bytes w128 v }) (λ u. from_le_bytes w128 u.0)
 u128_twin = number_twin 15
 

@@ -96,8 +96,9 @@ impl ULE for CharULE {
 
     #[inline]
     fn is_good_chunk(bytes: &[u8]) -> bool {
-        let code = code_of(bytes);
-        (code < 0xD800) | ((code >= 0xE000) & (code < 0x11_0000))
+        let middle = bytes[1];
+        let high = bytes[2];
+        !((high > 0x10) | ((high == 0) & (middle >= 0xD8) & (middle < 0xE0)))
     }
 
     #[inline]
