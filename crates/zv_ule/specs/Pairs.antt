@@ -1,0 +1,18 @@
+-- Two parts of fixed width, one after the other.
+use Rattle.std.specs.Prelude.{◌≡◌, ℕ, List, take, drop, Option}
+use Rattle.zv_ule.specs.Chunks.{or_fault}
+use Rattle.zv_ule.specs.declared.error.UleError.{UleError}
+
+-- the error of the first part, of that width, or else that of the second
+abbrev pub pair_fault : ℕ → (List ℕ → Option UleError) → (List ℕ → Option UleError) → List ℕ → Option UleError
+pair_fault width first second bytes = or_fault (first (take width bytes)) (second (drop width bytes))
+
+-- the first part, of that width, and the second, each as it is read
+abbrev pub read_pair : {A B : Type 0} → ℕ → (List ℕ → A) → (List ℕ → B) → List ℕ → A × B
+read_pair width first second bytes = (first (take width bytes), second (drop width bytes))
+
+-- make puts two parts together, first and second take them apart
+pub record IsPair {A B V : Type 0} (make : A → B → V) (first : V → A) (second : V → B) : Type 0 where
+  pub front : (a : A) (b : B) → first (make a b) ≡ a
+  pub back : (a : A) (b : B) → second (make a b) ≡ b
+  pub whole : (v : V) → make (first v) (second v) ≡ v
