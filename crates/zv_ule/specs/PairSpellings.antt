@@ -1,11 +1,11 @@
 -- The laws of two parts, from those of each.
-use Rattle.std.proofs.Common.{◌≡◌, ℕ, ◌+◌, ◌-◌, ◌≤◌, List, ◌++◌, length, take, drop, Option, ap, ◌∙◌, arith, length-append}
+use Rattle.std.proofs.Common.{◌≡◌, ℕ, ◌+◌, ◌-◌, ◌≤◌, List, ◌++◌, length, take, drop, Option, refl, ap, ◌∙◌, arith, length-append}
 use Rattle.std.proofs.lemmas.Grind.{common_steps}
 use Rattle.std.proofs.lemmas.List.{take-append-drop, length-drop, length-take-le}
 use Rattle.zv_ule.specs.declared.error.UleError.{UleError}
 use Rattle.zv_ule.specs.Bytes.{IsBytes}
 use Rattle.zv_ule.specs.Fixed.{IsChunk, IsSpelling, IsTwin}
-use Rattle.zv_ule.specs.Pairs.{pair_fault, IsPair}
+use Rattle.zv_ule.specs.Pairs.{pair_fault, read_pair, IsPair}
 use Rattle.zv_ule.specs.Joined.{front_of, back_of, front_bytes, back_bytes, or_none}
 
 pub joined_bytes : (a b : List ℕ) → IsBytes a → IsBytes b → IsBytes (a ++ b)
@@ -64,3 +64,17 @@ pair_twin make first second p store front back q {to_a = to_a} {from_a = from_a}
   );
   again = λ u h. rw (p.front (from_a (front u)) (from_b (back u)), p.back (from_a (front u)) (from_b (back u))) (made_alike store (s.again (front u) h.0) (t.again (back u) h.1) ∙ q.whole u);
 }
+
+-- the same for a pair
+pub both_spelling : {A B : Type 0}
+    → {is_a : A → Type 0} {wa : ℕ} {fa : List ℕ → Option UleError} {ca : A → List ℕ} {va : List ℕ → A} → IsSpelling is_a wa fa ca va
+    → {is_b : B → Type 0} {wb : ℕ} {fb : List ℕ → Option UleError} {cb : B → List ℕ} {vb : List ℕ → B} → IsSpelling is_b wb fb cb vb
+    → IsSpelling {V = A × B} (λ v. is_a v.0 × is_b v.1) (wa + wb) (pair_fault wa fa fb) (λ v. ca v.0 ++ cb v.1) (read_pair wa va vb)
+both_spelling {A = A} {B = B} s t = pair_spelling {V = A × B} (λ a b. (a, b)) (λ p. p.0) (λ p. p.1) (record { front = λ a b. refl; back = λ a b. refl; whole = λ v. refl }) s t
+
+pub both_twin : {A B C D : Type 0}
+    → {is_a : A → Type 0} {is_c : C → Type 0} {to_a : A → C} {from_a : C → A} → IsTwin is_a is_c to_a from_a
+    → {is_b : B → Type 0} {is_d : D → Type 0} {to_b : B → D} {from_b : D → B} → IsTwin is_b is_d to_b from_b
+    → IsTwin {V = A × B} {U = C × D} (λ v. is_a v.0 × is_b v.1) (λ u. is_c u.0 × is_d u.1) (λ v. (to_a v.0, to_b v.1)) (λ u. (from_a u.0, from_b u.1))
+both_twin {A = A} {B = B} {C = C} {D = D} s t = pair_twin {V = A × B} (λ a b. (a, b)) (λ p. p.0) (λ p. p.1) (record { front = λ a b. refl; back = λ a b. refl; whole = λ v. refl })
+    {U = C × D} (λ a b. (a, b)) (λ p. p.0) (λ p. p.1) (record { front = λ a b. refl; back = λ a b. refl; whole = λ v. refl }) s t

@@ -11,6 +11,10 @@ pair_fault width first second bytes = or_fault (first (take width bytes)) (secon
 abbrev pub read_pair : {A B : Type 0} → ℕ → (List ℕ → A) → (List ℕ → B) → List ℕ → A × B
 read_pair width first second bytes = (first (take width bytes), second (drop width bytes))
 
+-- three parts, all but the last of those widths, each as it is read
+abbrev pub read_three : {A B C : Type 0} → ℕ → ℕ → (List ℕ → A) → (List ℕ → B) → (List ℕ → C) → List ℕ → A × B × C
+read_three wa wb first second third bytes = (first (take wa bytes), second (take wb (drop wa bytes)), third (drop wb (drop wa bytes)))
+
 -- make puts two parts together, first and second take them apart
 pub record IsPair {A B V : Type 0} (make : A → B → V) (first : V → A) (second : V → B) : Type 0 where
   pub front : (a : A) (b : B) → first (make a b) ≡ a
