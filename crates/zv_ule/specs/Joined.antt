@@ -1,13 +1,14 @@
 -- Values and their chunks, one after another: what the laws of composed types stand on.
-use Rattle.std.proofs.Common.{◌≡◌, ℕ, zero, suc, ◌+◌, ◌*◌, ◌≤◌, List, [], ◌∷◌, ◌++◌, length, take, drop, map, Option, Some, None, refl, sym, ◌∙◌, arith, length-append}
+use Rattle.std.proofs.Common.{◌≡◌, ℕ, zero, suc, ◌+◌, ◌*◌, ◌/◌, ◌<◌, ◌≤◌, List, [], ◌∷◌, ◌++◌, length, take, drop, map, Option, Some, None, refl, ap, sym, ◌∙◌, arith, length-append}
 use Rattle.std.specs.Prelude.{flat_map}
 use Rattle.std.specs.List.{AllByRecursion}
 use Rattle.std.proofs.lemmas.Grind.{common_steps}
 use Rattle.std.proofs.lemmas.List.{take-append-drop, length-drop, length-take-le, nil_from_length, get_or-drop}
 use Rattle.std.proofs.Math.Seq.{take-append_seam, drop-append_seam}
 use Rattle.std.proofs.Math.Nat.{suc-mul}
+use Rattle.std.proofs.lemmas.Nat.{div-mul-add}
 use Rattle.zv_ule.specs.declared.error.UleError.{UleError}
-use Rattle.zv_ule.specs.Chunks.{chunks, first_fault, or_fault}
+use Rattle.zv_ule.specs.Chunks.{chunks, first_fault, or_fault, values_of}
 use Rattle.zv_ule.specs.Bytes.{IsBytes}
 use Rattle.zv_ule.specs.Fixed.{IsChunk, IsSpelling}
 
@@ -62,3 +63,16 @@ read_pieces {w = w} {f = f} {chunk = chunk} {value = value} s (suc n) b each lon
 pub values_back : {V : Type 0} {is_value : V → Type 0} {w : ℕ} {f : List ℕ → Option UleError} {chunk : V → List ℕ} {value : List ℕ → V} (s : IsSpelling is_value w f chunk value) (vs : List V) → AllByRecursion is_value vs → map value (map chunk vs) ≡ vs
 values_back s [] h = refl
 values_back s (v ∷ vs) h = rw (s.back v h.0, values_back s vs h.1) refl
+
+pub count_of_joined : {V : Type 0} {is_value : V → Type 0} {w : ℕ} {f : List ℕ → Option UleError} {chunk : V → List ℕ} {value : List ℕ → V} (s : IsSpelling is_value w f chunk value) (vs : List V) → AllByRecursion is_value vs → 0 < w → length (flat_map chunk vs) / w ≡ length vs
+count_of_joined {w = w} s vs h pos =
+    ap (λ n. n / w) (joined_length s vs h ∙ omega arith) ∙ div-mul-add (length vs) w 0 pos
+
+-- what was written is read as the values
+pub joined_values : {V : Type 0} {is_value : V → Type 0} {w : ℕ} {f : List ℕ → Option UleError} {chunk : V → List ℕ} {value : List ℕ → V} (s : IsSpelling is_value w f chunk value) (vs : List V) → AllByRecursion is_value vs → 0 < w → values_of w value (flat_map chunk vs) ≡ vs
+joined_values {w = w} {chunk = chunk} {value = value} s vs h pos =
+    ap (λ n. map value (chunks w n (flat_map chunk vs))) (count_of_joined s vs h pos) ∙ ap (map value) (joined_chunks s vs h) ∙ values_back s vs h
+
+pub length-chunks : (w n : ℕ) (b : List ℕ) → length (chunks w n b) ≡ n
+length-chunks w zero b = refl
+length-chunks w (suc n) b = ap suc (length-chunks w n (drop w b))
