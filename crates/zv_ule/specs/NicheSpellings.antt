@@ -1,9 +1,13 @@
 -- The laws of options without a tag, from those of their values.
-use Rattle.std.proofs.Common.{◌≡◌, ℕ, List, Option, Some, None, refl, ap, sym, ◌∙◌, Bool, true, false, if◌then◌else◌, arith}
+use Rattle.std.proofs.Common.{◌≡◌, ℕ, List, [], ◌∷◌, Option, Some, None, refl, ap, sym, ◌∙◌, Bool, true, false, if◌then◌else◌, arith, lit<}
 use Rattle.std.proofs.lemmas.Slice.Eq.{bytes_eq-Decides}
 use Rattle.std.specs.Prelude.{IfSome, bytes_eq}
 use Rattle.zv_ule.specs.declared.error.UleError.{UleError}
+use Rattle.zv_ule.specs.declared.error.TyName.TheVariants.{NonZeroU8}
+use Rattle.zv_ule.specs.declared.error.UleError.TheVariants.{ParseError}
 use Rattle.zv_ule.specs.Fixed.{IsChunk, IsSpelling}
+use Rattle.zv_ule.specs.NonZero.{non_zero_fault}
+use Rattle.zv_ule.specs.Spellings.{no_bytes, more_bytes}
 use Rattle.zv_ule.specs.Niches.{IsNiche, niche_fault, niche_chunk, niche_value}
 
 pub same_is : (a b : List ℕ) → a ≡ b → bytes_eq a b ≡ true
@@ -50,3 +54,7 @@ niche_spelling make of there here {pattern = pattern} {v = v} niche s = record {
   reads = λ b h. rw (there (niche_value pattern v b)) ((niche_reads niche s b (bytes_eq b pattern) refl h).0);
   again = λ b h. rw (there (niche_value pattern v b)) ((niche_reads niche s b (bytes_eq b pattern) refl h).1);
 }
+
+-- no number other than 0 is stored as 0
+pub zero_is_niche : IsNiche 1 1 non_zero_fault (0 ∷ [])
+zero_is_niche = record { whole = refl; each = more_bytes 0 [] (lit< tt) no_bytes; long = refl; bad = (ParseError NonZeroU8, refl) }

@@ -1,5 +1,5 @@
 // Options of values of fixed width, with no tag.
-ghost use Rattle.std.specs.Prelude.{◌≡◌, ⊤, ℕ, ◌+◌, ◌%◌, ◌/◌, ◌^◌, ◌<◌, List, length, refl, Option, None, Some, IsTrue, IfSome, is_none, bytes_eq, option_map, option_copied};
+ghost use Rattle.std.specs.Prelude.{◌≡◌, ⊤, ℕ, ◌+◌, ◌%◌, ◌/◌, ◌^◌, ◌<◌, List, [], ◌∷◌, length, refl, Option, None, Some, IsTrue, IfSome, is_none, bytes_eq, option_map, option_copied};
 ghost use Rattle.std.specs.Cmp.{on_total};
 ghost use Rattle.std.specs.Cmp.Lexicographic.{options_total};
 ghost use Rattle.std.specs.Option.{option_cmp};
@@ -8,7 +8,7 @@ ghost use Rattle.zv_ule.specs.Chunks.{chunks_of, first_fault};
 ghost use Rattle.zv_ule.specs.Fixed.{is_width};
 ghost use Rattle.zv_ule.specs.Kinds.{one_fault};
 ghost use Rattle.zv_ule.specs.Niches.{IsNiche, niche_fault, niche_chunk, niche_value, read_niche};
-ghost use Rattle.zv_ule.specs.NicheSpellings.{niche_spelling};
+ghost use Rattle.zv_ule.specs.NicheSpellings.{niche_spelling, zero_is_niche};
 ghost use Rattle.zv_ule.specs.OptionSpellings.{option_twin};
 ghost use Rattle.zv_ule.specs.declared.error.TyName.TheVariants.{NichedOpt};
 
@@ -19,6 +19,7 @@ use crate::kind::{ZvKind, ZvOrd};
 use crate::steps::Steps;
 use std::cmp::Ordering;
 use std::iter::Once;
+use std::num::NonZeroU8;
 use std::sync::ledger::Ledger;
 
 /// A type of `N` bytes that leaves a chunk free, which can stand for the absence of a value.
@@ -30,6 +31,14 @@ pub trait NicheBytes<const N: usize>: ULE {
 
     /// The pattern has the type's width and is no value's.
     ghost free: { IsNiche N Self.width Self.chunk_fault NICHE_BIT_PATTERN };
+}
+
+impl NicheBytes<1> for NonZeroU8 {
+    const NICHE_BIT_PATTERN: [u8; 1] = [0];
+
+    ghost NICHE_BIT_PATTERN = { 0 ∷ [] };
+
+    ghost free = { zero_is_niche };
 }
 
 /// A stored value, or the pattern that no value has. It takes as many bytes as a value, and the

@@ -1,0 +1,10 @@
+use Rattle.std.proofs.Common.{◌≡◌, length, map, take}
+use Rattle.std.specs.Int.{w128, to_le_bytes}
+use Rattle.zv_ule.proofs.raw_bytes.RawBytesULE+16.from_array.Given as goal
+
+-- what is filled is that of what was gone over
+abbrev pub invariant-loop-index : goal.invariant-loop-index
+invariant-loop-index g l = record {
+  long : length l.stored ≡ length l.arr;
+  filled : take l.index l.stored ≡ map (λ v. record { 0 = to_le_bytes w128 v }) (take l.index l.arr);
+}

@@ -1,0 +1,69 @@
+-- Characters in three bytes.
+use Rattle.std.proofs.Common.{◌≡◌, ℕ, ◌+◌, ◌*◌, ◌<◌, ◌^◌, ◌%◌, ◌/◌, List, [], ◌∷◌, length, Option, Some, None, refl, ap, arith, slice_index, if◌then◌else◌, Bool, true, false, inl, inr}
+use Rattle.std.proofs.Math.Utf8.{scalar, scalar_cases}
+use Rattle.std.proofs.lemmas.Nat.{mod_below}
+use Rattle.std.specs.Char.{IsScalar}
+use Rattle.zv_ule.specs.declared.chars.CharULE.{CharULE}
+use Rattle.zv_ule.specs.declared.error.TyName.TheVariants.{Char}
+use Rattle.zv_ule.specs.declared.error.UleError.{UleError}
+use Rattle.zv_ule.specs.declared.error.UleError.TheVariants.{ParseError}
+use Rattle.zv_ule.specs.Bytes.{IsBytes}
+use Rattle.zv_ule.specs.Fixed.{IsSpelling, IsTwin}
+use Rattle.zv_ule.specs.Spellings.{no_bytes, more_bytes}
+
+-- the number that three bytes spell, the lowest first
+abbrev pub char_code : List ℕ → ℕ
+char_code b = slice_index b 0 + slice_index b 1 * 256 + slice_index b 2 * 65536
+
+-- the low three bytes of a character's number
+abbrev pub char_bytes : ℕ → List ℕ
+char_bytes c = c % 256 ∷ (c / 256 % 256 ∷ (c / 65536 % 256 ∷ []))
+
+-- the error of a chunk: a character is at most 0x10FFFF and no surrogate
+abbrev pub char_fault : List ℕ → Option UleError
+char_fault b = if scalar (char_code b) then None else Some (ParseError Char)
+
+three_bytes : (x y z : ℕ) → x < 256 → y < 256 → z < 256 → IsBytes (x ∷ (y ∷ (z ∷ [])))
+three_bytes x y z p q r = more_bytes x (y ∷ (z ∷ [])) p (more_bytes y (z ∷ []) q (more_bytes z [] r no_bytes))
+
+code_back : (c : ℕ) → c < 2 ^ 24 → char_code (char_bytes c) ≡ c
+code_back c h = omega arith
+
+-- three bytes are those of the number that they spell
+pub bytes_back : (b : List ℕ) → IsBytes b → length b ≡ 3 → char_bytes (char_code b) ≡ b
+bytes_back [] h e = absurd (omega (arith, e))
+bytes_back (x ∷ []) h e = absurd (omega (arith, e))
+bytes_back (x ∷ y ∷ []) h e = absurd (omega (arith, e))
+bytes_back (x ∷ y ∷ z ∷ []) h e =
+    let p = h.at 0 in
+    let q = h.at 1 in
+    let r = h.at 2 in
+    let one : (x + y * 256 + z * 65536) % 256 ≡ x = omega (arith, p, q, r) in
+    let two : (x + y * 256 + z * 65536) / 256 % 256 ≡ y = omega (arith, p, q, r) in
+    let three : (x + y * 256 + z * 65536) / 65536 % 256 ≡ z = omega (arith, p, q, r) in
+    rw (one, two, three) refl
+bytes_back (x ∷ y ∷ z ∷ w ∷ ws) h e = absurd (omega (arith, e))
+
+scalar_small : (c : ℕ) → scalar c ≡ true → c < 2 ^ 24
+scalar_small c h = elim (scalar_cases c h) [ inl p ↦ omega (arith, p) | inr p ↦ omega (arith, p.1) ]
+
+scalar_if : (t : Bool) → (if t then None else Some (ParseError Char)) ≡ None → t ≡ true
+scalar_if true h = refl
+scalar_if false h = cc
+
+-- a character is stored as the low three bytes of its number
+pub char_spelling : IsSpelling {V = CharULE} (λ v. IsScalar v.value) 3 char_fault (λ v. char_bytes v.value) (λ b. record { value = char_code b })
+char_spelling = record {
+  writes = λ v h. record {
+    each = three_bytes (v.value % 256) (v.value / 256 % 256) (v.value / 65536 % 256) (mod_below v.value 256 (omega arith)) (mod_below (v.value / 256) 256 (omega arith)) (mod_below (v.value / 65536) 256 (omega arith));
+    long = refl;
+    good = rw (code_back v.value (scalar_small v.value h), h) refl;
+  };
+  back = λ v h. ap (λ n. record { value = n }) (code_back v.value (scalar_small v.value h));
+  reads = λ b h. scalar_if (scalar (char_code b)) h.good;
+  again = λ b h. bytes_back b h.each h.long;
+}
+
+-- and loaded as itself
+pub char_twin : IsTwin {V = ℕ} {U = CharULE} IsScalar (λ u. IsScalar u.value) (λ v. record { value = v }) (λ u. u.value)
+char_twin = record { stored = λ v h. h; back = λ v h. refl; taken = λ u h. h; again = λ u h. refl }
