@@ -32,6 +32,14 @@ impl EqULE for bool {}
 
 impl EqULE for NonZeroU8 {}
 
+impl<const N: usize> EqULE for [u8; N] {}
+
+impl<const N: usize> EqULE for [u16; N] {}
+
+impl<const N: usize> EqULE for [u32; N] {}
+
+impl<const N: usize> EqULE for [u64; N] {}
+
 /// A type whose slices may be seen as the bytes that they are stored as, with no copy. Where a
 /// number has more than one byte that would depend on the machine, so only a slice of `u8` is.
 pub trait SliceAsULE: AsULE {
@@ -149,6 +157,42 @@ impl SliceAsULE for NonZeroU8 {
 
     #[inline]
     fn slice_to_unaligned(_slice: &[NonZeroU8]) -> Option<&[u8]> {
+        None
+    }
+}
+
+impl<const N: usize> SliceAsULE for [u8; N] {
+    ghost is_seen = { false };
+
+    #[inline]
+    fn slice_to_unaligned(_slice: &[[u8; N]]) -> Option<&[u8]> {
+        None
+    }
+}
+
+impl<const N: usize> SliceAsULE for [u16; N] {
+    ghost is_seen = { false };
+
+    #[inline]
+    fn slice_to_unaligned(_slice: &[[u16; N]]) -> Option<&[u8]> {
+        None
+    }
+}
+
+impl<const N: usize> SliceAsULE for [u32; N] {
+    ghost is_seen = { false };
+
+    #[inline]
+    fn slice_to_unaligned(_slice: &[[u32; N]]) -> Option<&[u8]> {
+        None
+    }
+}
+
+impl<const N: usize> SliceAsULE for [u64; N] {
+    ghost is_seen = { false };
+
+    #[inline]
+    fn slice_to_unaligned(_slice: &[[u64; N]]) -> Option<&[u8]> {
         None
     }
 }
