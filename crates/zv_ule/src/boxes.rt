@@ -165,25 +165,3 @@ impl<T: VarULE> EncodeAsVarULE<T> for VarBox<T> {
         dst.copy_from_slice(self.as_bytes());
     }
 }
-
-#[cfg(test)]
-mod tests {
-    use super::*;
-    use crate::slices::SliceULE;
-    use crate::text::StrULE;
-    use std::test::Fail;
-
-    // A text, the copy of its box, and a box of what that copy views; the same bytes from a vector.
-    #[test]
-    fn boxes_of_two_bytes(rt: HostRuntime) -> Result<(), Fail> {
-        let alloc = rt.alloc();
-        let written: VarBox<StrULE> = encode_varule_to_box(alloc, &"ab")?;
-        assert_eq!(rt; written.as_bytes(), b"ab".as_slice());
-        let copied = written.clone(alloc)?;
-        assert_eq!(rt; copied.as_bytes(), b"ab".as_slice());
-        let boxed = copied.as_ref().to_boxed(alloc)?;
-        let listed: VarBox<SliceULE<u8>> = encode_varule_to_box(alloc, &boxed.into_bytes())?;
-        assert_eq!(rt; listed.as_bytes(), [0x61, 0x62].as_slice());
-        Ok(())
-    }
-}
