@@ -14,6 +14,7 @@ use crate::element::{AsULE, ULE};
 use crate::kind::{ZvKind, ZvOrd};
 use crate::slices::SliceULE;
 use crate::text::StrULE;
+use std::hash::Hash;
 
 /// Lists of values and the byte strings that they are stored as:
 ///
@@ -47,6 +48,11 @@ pub fn fixed_lists<T: AsULE>()
 /// The order of every kind is total.
 pub fn total_order<K: ZvOrd>()
     ensures { IsTotalOrder K.cmp }
+{}
+
+/// Values that are equal make the same writes to a hasher, and so have equal hashes.
+pub fn equal_hashes<T: Hash>()
+    ensures { (v w : T) → IsTrue (T.eq v w) → T.hash_input v ≡ T.hash_input w }
 {}
 
 /// Stored values that compare Equal are the same bytes, where the type's own order has only equal
