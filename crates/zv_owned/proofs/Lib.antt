@@ -1,0 +1,6 @@
+pub mod Codable
+pub mod Heads
+pub mod Kept
+pub mod Offsets
+pub mod Removals
+pub mod Splices

@@ -1,0 +1,47 @@
+-- Worked examples of the size rule.
+use Rattle.std.specs.Prelude.{◌≡◌, ℕ, List, [], ◌∷◌, replicate, true, false}
+use Rattle.zv_owned.specs.Size.{takes_insert, takes_replace}
+
+-- the list of one element of n bytes
+abbrev pub one_of : ℕ → List (List ℕ)
+one_of n = replicate n 97 ∷ []
+
+-- with fields of two bytes, a field holds at most 65,535: an empty list takes an element of one byte less
+abbrev pub EmptyTakesBelowMost : Type 0
+EmptyTakesBelowMost = takes_insert 2 [] 65534 ≡ true
+
+-- and none of that many
+abbrev pub EmptyRefusesMost : Type 0
+EmptyRefusesMost = takes_insert 2 [] 65535 ≡ false
+
+-- a list of one element of 10 bytes is 12 bytes long, and takes one of 65,521 bytes beside it
+abbrev pub SecondIsTaken : Type 0
+SecondIsTaken = takes_insert 2 (one_of 10) 65521 ≡ true
+
+-- and none of one more
+abbrev pub LongerSecondIsRefused : Type 0
+LongerSecondIsRefused = takes_insert 2 (one_of 10) 65522 ≡ false
+
+-- an only element of 10 bytes gives way to one of 65,533
+abbrev pub OnlyGivesWay : Type 0
+OnlyGivesWay = takes_replace 2 (one_of 10) 10 65533 ≡ true
+
+-- and to none of one more
+abbrev pub OnlyStays : Type 0
+OnlyStays = takes_replace 2 (one_of 10) 10 65534 ≡ false
+
+-- with fields of one byte, an empty list takes an element of 254 bytes
+abbrev pub ShortTakesBelowMost : Type 0
+ShortTakesBelowMost = takes_insert 1 [] 254 ≡ true
+
+-- and none of 255
+abbrev pub ShortRefusesMost : Type 0
+ShortRefusesMost = takes_insert 1 [] 255 ≡ false
+
+-- a list of one element of 254 bytes is full: it takes not even an element of no bytes
+abbrev pub FullTakesNone : Type 0
+FullTakesNone = takes_insert 1 (one_of 254) 0 ≡ false
+
+-- but another element of 254 bytes may stand in place of its own
+abbrev pub FullTakesSameSize : Type 0
+FullTakesSameSize = takes_replace 1 (one_of 254) 254 254 ≡ true

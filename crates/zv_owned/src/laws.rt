@@ -1,0 +1,27 @@
+// What the size rule means: worked examples, and laws. Each call does nothing, and its contract is
+// what it is for.
+ghost use Rattle.zv_owned.specs.Examples.{EmptyRefusesMost, EmptyTakesBelowMost, FullTakesNone, FullTakesSameSize, LongerSecondIsRefused, OnlyGivesWay, OnlyStays, SecondIsTaken, ShortRefusesMost, ShortTakesBelowMost};
+ghost use Rattle.zv_owned.specs.Laws.{InsertKeeps, RemoveKeeps, ReplaceKeeps, ShorterIsTaken};
+
+/// Elements at the edge of what a list takes.
+pub fn sizes_by_hand()
+    ensures empty_takes_below_most { EmptyTakesBelowMost }
+    ensures empty_refuses_most { EmptyRefusesMost }
+    ensures second_taken { SecondIsTaken }
+    ensures longer_second_refused { LongerSecondIsRefused }
+    ensures only_gives_way { OnlyGivesWay }
+    ensures only_stays { OnlyStays }
+    ensures short_takes_below_most { ShortTakesBelowMost }
+    ensures short_refuses_most { ShortRefusesMost }
+    ensures full_takes_none { FullTakesNone }
+    ensures full_takes_same_size { FullTakesSameSize }
+{}
+
+/// A list that can be written still can after each change that the size rule takes, and after any
+/// removal. A shorter element is always taken in place of a longer one.
+pub fn size_rule()
+    ensures insert { InsertKeeps }
+    ensures replace { ReplaceKeeps }
+    ensures remove { RemoveKeeps }
+    ensures shorter { ShorterIsTaken }
+{}

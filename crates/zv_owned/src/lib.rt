@@ -1,0 +1,16 @@
+//! Lists of elements of any lengths that own their bytes, or borrow them until the first change.
+//!
+//! [`VarZeroVecOwned`] is such a list in a format's encoding; after each change its bytes are the
+//! encoding of the changed list. [`VarZeroVec`] is a view or an owned list.
+#![tactic(auto)]
+
+mod anew;
+mod changes;
+pub mod error;
+pub mod laws;
+pub mod owned;
+pub mod vector;
+
+pub use error::VecError;
+pub use owned::VarZeroVecOwned;
+pub use vector::{VarZeroVec, VarZeroVec16, VarZeroVec32};

@@ -1,0 +1,442 @@
+// A list in a format that is borrowed, or owns its bytes.
+ghost use Rattle.std.specs.Prelude.{◌≡◌, ⊤, ℕ, ◌==◌, ◌&&◌, ◌+◌, ◌^◌, ◌<◌, ◌≤◌, ◌⊎◌, ◌↔◌, [], length, set, slice_index_or, slice_range, Option, None, Some, IsTrue, IfOk, OnOk, OnErr, IfSome, IsNone, IsOk, true, false, is_some, not};
+ghost use Rattle.std.specs.List.{insert, remove, slice_get};
+ghost use Rattle.std.specs.Option.{option_map};
+ghost use Rattle.std.specs.Result.{result_err};
+ghost use Rattle.zv_ule.specs.Search.{Found, compared};
+ghost use Rattle.zv_ule.specs.Views.{element_of};
+ghost use Rattle.zv_var.specs.Format.{elements, enc, list_fault};
+ghost use Rattle.zv_var.specs.Iters.{left_of};
+ghost use Rattle.zv_var.specs.Nested.{slice_fault};
+ghost use Rattle.zv_var.specs.Views.{bytes_of, list_of, parts_of};
+ghost use Rattle.zv_owned.specs.Owned.{Owned, TooLargeUnless};
+ghost use Rattle.zv_owned.specs.Size.{takes_insert, takes_replace};
+
+use crate::changes::{inserted_arg, removed, replaced_arg, takes_another, takes_instead};
+use crate::error::VecError;
+use crate::owned::VarZeroVecOwned;
+use std::alloc::Global;
+use std::marker::Model;
+use std::ops::Range;
+use zv_ule::argument::{ZvArg, ZvOrdArg};
+use zv_ule::error::{NoMemory, UleError};
+use zv_ule::format::{Index16, Index32, VarZeroVecFormat};
+use zv_ule::kind::{ZvKind, ZvOrd};
+use zv_ule::view::VarRef;
+use zv_var::components::VarZeroVecComponents;
+use zv_var::iter::VarZeroSliceIter;
+use zv_var::slice::VarZeroSlice;
+
+/// An owned list, or none.
+#[derive(Drop)]
+struct Slot<T: ZvKind, F: VarZeroVecFormat> {
+    owned: Option<VarZeroVecOwned<T, F>>,
+}
+
+impl<T: ZvKind, F: VarZeroVecFormat> Model for Slot<T, F> {
+    ghost use Rattle.std.specs.Prelude.{Option};
+    ghost use Rattle.zv_owned.specs.Owned.{Owned};
+
+    ghost Value = { Option Owned };
+
+    ghost view = { λ s. s.owned };
+}
+
+impl<T: ZvKind, F: VarZeroVecFormat> Slot<T, F> {
+    ghost use Rattle.std.specs.Borrow.{sem};
+    ghost use Rattle.zv_owned.specs.Lending.{LendsSlot};
+
+    /// The owned list, to be changed.
+    #[inline]
+    fn as_owned(&mut self) -> Option<&mut VarZeroVecOwned<T, F>>
+        ensures* lends { sem 𝓛 (LendsSlot T.row F.row F.Index.row F.Len.row
+            T.ZvKind F.VarZeroVecFormat F.Index.IntegerULE.own F.Index.ULE
+            F.Len.IntegerULE.own F.Len.ULE self.entry result) }
+        ensures value { option_map (λ v. v.now) result ≡ self.old }
+    {
+        self.owned.as_mut()
+    }
+
+    /// Holds a copy of the list, if it holds none.
+    #[inline]
+    fn fill(&mut self, alloc: Global, list: VarZeroSlice<'_, T, F>) -> Result<(), NoMemory>
+        ensures some { OnOk result (is_some self.new ≡ true) }
+        ensures made { IsOk result → self.old ≡ None →
+            IfSome self.new (λ v.
+            (v.list ≡ list_of list.entry) × (v.bytes ≡ bytes_of list.entry)) }
+        ensures kept { is_some self.old ≡ true → (self.new ≡ self.old) × IsOk result }
+        ensures err { OnErr result (self.new ≡ self.old) }
+    {
+        if self.owned.is_none() {
+            self.owned = Some(VarZeroVecOwned::from_slice(alloc, list)?);
+        }
+        Ok(())
+    }
+}
+
+/// A list of elements of any lengths: a view of bytes, or bytes of its own.
+///
+/// It is borrowed until the first change, which makes it owned, and then stays so. The form of the
+/// bytes, and what a change leaves, are as for [`VarZeroSlice`] and [`VarZeroVecOwned`].
+#[derive(Drop)]
+pub struct VarZeroVec<'a, T: ZvKind, F: VarZeroVecFormat> {
+    view: VarZeroSlice<'a, T, F>,
+    slot: Slot<T, F>,
+}
+
+/// A list whose count and starts have two bytes each.
+pub type VarZeroVec16<'a, T> = VarZeroVec<'a, T, Index16>;
+
+/// A list whose count and starts have four bytes each.
+pub type VarZeroVec32<'a, T> = VarZeroVec<'a, T, Index32>;
+
+impl<'a, T: ZvKind, F: VarZeroVecFormat> VarZeroVec<'a, T, F> {
+    ghost use Rattle.std.specs.Borrow.{sem};
+    ghost use Rattle.zv_owned.specs.Lending.{LendsMade, LendsOwned};
+    ghost use Rattle.zv_owned.specs.Vectors.{vector_bytes, vector_list, vector_owned, vector_spare};
+
+    /// The list of no elements, borrowed. It takes no memory.
+    #[inline]
+    pub fn new() -> Self
+        requires { IsTrue T.usable }
+        ensures list { vector_list result ≡ [] }
+        ensures bytes { vector_bytes result ≡ [] }
+        ensures owned { vector_owned result ≡ false }
+    {
+        VarZeroVec::new_borrowed(VarZeroSlice::of_valid(&[]))
+    }
+
+    /// A list that is read where it lies.
+    #[inline]
+    pub fn new_borrowed(view: VarZeroSlice<'a, T, F>) -> Self
+        ensures list { vector_list result ≡ list_of view.entry }
+        ensures bytes { vector_bytes result ≡ bytes_of view.entry }
+        ensures owned { vector_owned result ≡ false }
+    {
+        VarZeroVec {
+            view,
+            slot: Slot { owned: None },
+        }
+    }
+
+    /// A list that owns its bytes.
+    #[inline]
+    pub fn new_owned(owned: VarZeroVecOwned<T, F>) -> Self
+        ensures list { vector_list result ≡ owned.list }
+        ensures bytes { vector_bytes result ≡ owned.bytes }
+        ensures spare { vector_spare result ≡ owned.spare }
+        ensures owned { vector_owned result ≡ true }
+    {
+        owned.as_slice();
+        VarZeroVec {
+            view: VarZeroSlice::of_valid(&[]),
+            slot: Slot { owned: Some(owned) },
+        }
+    }
+
+    /// The list that bytes are in the format, borrowed.
+    ///
+    /// # Errors
+    /// As [`VarZeroSlice::parse_bytes`].
+    pub fn parse_bytes(bytes: &'a [u8]) -> Result<Self, UleError>
+        requires { IsTrue T.usable }
+        ensures error { result_err result ≡ slice_fault (list_fault F.W T.fault bytes.now) }
+        ensures list { IfOk result (λ v. vector_list v ≡ elements F.W bytes.now) }
+        ensures bytes { IfOk result (λ v. vector_bytes v ≡ bytes.now) }
+        ensures owned { IfOk result (λ v. vector_owned v ≡ false) }
+    {
+        let view = VarZeroSlice::parse_bytes(bytes)?;
+        Ok(VarZeroVec::new_borrowed(view))
+    }
+
+    /// Whether the list owns its bytes.
+    #[inline]
+    pub fn is_owned(&self) -> bool
+        ensures { result ≡ vector_owned self.now }
+    {
+        self.slot.owned.is_some()
+    }
+
+    /// The list, read in place.
+    #[inline]
+    pub fn as_slice(&self) -> VarZeroSlice<'_, T, F>
+        ensures bytes { bytes_of result ≡ vector_bytes self.now }
+        ensures list { list_of result ≡ vector_list self.now }
+    {
+        match &self.slot.owned {
+            Some(owned) => owned.as_slice(),
+            None => self.view,
+        }
+    }
+
+    /// The view, where the list is borrowed. It lives as long as the bytes, and so longer than the
+    /// vector may.
+    #[inline]
+    pub fn as_maybe_borrowed(&self) -> Option<VarZeroSlice<'a, T, F>>
+        ensures some { is_some result ≡ not (vector_owned self.now) }
+        ensures list { IfSome result (λ s. list_of s ≡ vector_list self.now) }
+        ensures bytes { IfSome result (λ s. bytes_of s ≡ vector_bytes self.now) }
+    {
+        if self.is_owned() {
+            None
+        } else {
+            Some(self.view)
+        }
+    }
+
+    /// The owned list, to be changed, where the list is owned. It takes no memory.
+    #[inline]
+    pub fn as_owned(&mut self) -> Option<&mut VarZeroVecOwned<T, F>>
+        ensures* lends { sem 𝓛 (LendsOwned T.row F.row F.Index.row F.Len.row
+            T.ZvKind F.VarZeroVecFormat F.Index.IntegerULE.own F.Index.ULE
+            F.Len.IntegerULE.own F.Len.ULE self.entry result) }
+        ensures value { option_map (λ v. v.now) result ≡ self.old.slot }
+    {
+        self.slot.as_owned()
+    }
+
+    /// The owned list, to be changed. A list that is borrowed is copied first, byte for byte.
+    ///
+    /// # Errors
+    /// [`NoMemory`] at most where the list is borrowed, and then it stays so.
+    pub fn make_mut(&mut self, alloc: Global) -> Result<&mut VarZeroVecOwned<T, F>, NoMemory>
+        ensures* lends { sem 𝓛 (LendsMade T.row F.row F.Index.row F.Len.row
+            T.ZvKind F.VarZeroVecFormat F.Index.IntegerULE.own F.Index.ULE
+            F.Len.IntegerULE.own F.Len.ULE self.entry result) }
+        ensures list { IfOk result (λ v. v.now.list ≡ vector_list self.old) }
+        ensures bytes { IfOk result (λ v. v.now.bytes ≡ vector_bytes self.old) }
+        ensures kept { IsTrue (vector_owned self.old) → IsOk result }
+    {
+        if let Err(e) = self.slot.fill(alloc, self.view) {
+            return Err(e);
+        }
+        match self.slot.as_owned() {
+            Some(owned) => Ok(owned),
+            None => Err(NoMemory),
+        }
+    }
+
+    /// The list's bytes.
+    #[inline]
+    pub fn as_bytes(&self) -> &[u8]
+        ensures bytes { result.now ≡ vector_bytes self.now }
+        ensures spells { list_fault F.W T.fault result.now ≡ None }
+    {
+        self.as_slice().as_bytes()
+    }
+
+    /// The list, its count read.
+    #[inline]
+    pub fn as_components(&self) -> VarZeroVecComponents<'_, T, F>
+        ensures parts { parts_of result ≡ vector_list self.now }
+    {
+        self.as_slice().components()
+    }
+
+    /// How many elements there are.
+    #[inline]
+    pub fn len(&self) -> usize
+        ensures { result ≡ length (vector_list self.now) }
+    {
+        self.as_slice().len()
+    }
+
+    /// Whether there is no element.
+    #[inline]
+    pub fn is_empty(&self) -> bool
+        ensures { result ≡ (length (vector_list self.now) == 0) }
+    {
+        self.as_slice().is_empty()
+    }
+
+    /// The element at a place, counted from 0, or `None` from the end on. It reads the count and
+    /// two starts, whatever the length of the list.
+    #[inline]
+    pub fn get(&self, idx: usize) -> Option<VarRef<'_, T>>
+        ensures { option_map element_of result ≡ slice_get (vector_list self.now) idx }
+    {
+        self.as_slice().get(idx)
+    }
+
+    /// The elements, in order.
+    #[inline]
+    pub fn iter(&self) -> VarZeroSliceIter<'_, T, F>
+        ensures { left_of result ≡ vector_list self.now }
+    {
+        self.as_slice().iter()
+    }
+
+    /// Whether the size rule of [`VarZeroVecOwned`] takes an element of `len` bytes beside the
+    /// list's own.
+    #[inline]
+    pub fn takes_insert(&self, len: usize) -> bool
+        ensures { result ≡ takes_insert F.W (vector_list self.now) len }
+    {
+        takes_another(self.as_slice(), len)
+    }
+
+    /// Whether the size rule of [`VarZeroVecOwned`] takes an element of `len` bytes in place of the
+    /// one at a place.
+    #[inline]
+    pub fn takes_replace(&self, index: usize, len: usize) -> bool
+        requires { index < length (vector_list self.now) }
+        ensures { result ≡ takes_replace F.W (vector_list self.now)
+            (length (slice_index_or (vector_list self.now) index [])) len }
+    {
+        takes_instead(self.as_slice(), index, len)
+    }
+
+    /// Puts what is written for a value before the element at a place, or at the end. The list is
+    /// owned then.
+    ///
+    /// # Errors
+    /// As [`VarZeroVecOwned::insert`].
+    pub fn insert_arg<Q: ZvArg<T>>(
+        &mut self,
+        alloc: Global,
+        index: usize,
+        value: &Q,
+    ) -> Result<(), VecError>
+        requires place { index ≤ length (vector_list self.old) }
+        requires below { length (Q.bytes value.now) < 2 ^ 64 }
+        ensures ok { OnOk result (vector_list self.new ≡
+            insert (vector_list self.old) index (Q.bytes value.now)) }
+        ensures bytes { OnOk result (vector_bytes self.new ≡ enc F.W (vector_list self.new)) }
+        ensures owned { OnOk result (vector_owned self.new ≡ true) }
+        ensures err { OnErr result (self.new ≡ self.old) }
+        ensures refused { TooLargeUnless (takes_insert F.W (vector_list self.old)
+            (length (Q.bytes value.now))) result }
+    {
+        let changed = inserted_arg(alloc, self.as_slice(), index, value)?;
+        self.slot.owned = Some(changed);
+        Ok(())
+    }
+
+    /// Puts what is written for a value in place of the element at a place. The list is owned then.
+    ///
+    /// # Errors
+    /// As [`VarZeroVecOwned::replace`].
+    pub fn replace_arg<Q: ZvArg<T>>(
+        &mut self,
+        alloc: Global,
+        index: usize,
+        value: &Q,
+    ) -> Result<(), VecError>
+        requires place { index < length (vector_list self.old) }
+        requires below { length (Q.bytes value.now) < 2 ^ 64 }
+        ensures ok { OnOk result (vector_list self.new ≡
+            set (vector_list self.old) index (Q.bytes value.now)) }
+        ensures bytes { OnOk result (vector_bytes self.new ≡ enc F.W (vector_list self.new)) }
+        ensures owned { OnOk result (vector_owned self.new ≡ true) }
+        ensures err { OnErr result (self.new ≡ self.old) }
+        ensures refused { TooLargeUnless (takes_replace F.W (vector_list self.old)
+            (length (slice_index_or (vector_list self.old) index []))
+            (length (Q.bytes value.now))) result }
+    {
+        let changed = replaced_arg(alloc, self.as_slice(), index, value)?;
+        self.slot.owned = Some(changed);
+        Ok(())
+    }
+
+    /// Takes out the element at a place, and writes the rest anew. The list is owned then. After
+    /// [`NoMemory`] it is as it was.
+    pub fn remove_anew(&mut self, alloc: Global, index: usize) -> Result<(), NoMemory>
+        requires place { index < length (vector_list self.old) }
+        ensures ok { OnOk result (vector_list self.new ≡ remove (vector_list self.old) index) }
+        ensures bytes { OnOk result (vector_bytes self.new ≡ enc F.W (vector_list self.new)) }
+        ensures owned { OnOk result (vector_owned self.new ≡ true) }
+        ensures err { OnErr result (self.new ≡ self.old) }
+    {
+        let changed = removed(alloc, self.as_slice(), index)?;
+        self.slot.owned = Some(changed);
+        Ok(())
+    }
+
+    /// Takes out every element. It takes no memory. A list that is owned stays so, and keeps what
+    /// it has; one that is borrowed is then a view of no bytes.
+    #[inline]
+    pub fn clear(&mut self)
+        ensures list { vector_list self.new ≡ [] }
+        ensures bytes { vector_bytes self.new ≡ [] }
+        ensures owned { vector_owned self.new ≡ vector_owned self.old }
+        ensures spare { vector_spare self.old ≤ vector_spare self.new }
+    {
+        match self.slot.as_owned() {
+            Some(owned) => owned.clear(),
+            None => self.view = VarZeroSlice::of_valid(&[]),
+        }
+    }
+
+    /// A list with the same bytes, borrowed from the same place or owned as this one is. It takes
+    /// memory only where it is owned.
+    pub fn clone(&self, alloc: Global) -> Result<Self, NoMemory>
+        ensures list { IfOk result (λ v. vector_list v ≡ vector_list self.now) }
+        ensures bytes { IfOk result (λ v. vector_bytes v ≡ vector_bytes self.now) }
+        ensures owned { IfOk result (λ v. vector_owned v ≡ vector_owned self.now) }
+        ensures borrowed { vector_owned self.now ≡ false → IsOk result }
+    {
+        if self.is_owned() {
+            let owned = VarZeroVecOwned::from_slice(alloc, self.as_slice())?;
+            return Ok(VarZeroVec::new_owned(owned));
+        }
+        Ok(VarZeroVec::new_borrowed(self.view))
+    }
+}
+
+impl<'a, T: ZvOrd, F: VarZeroVecFormat> VarZeroVec<'a, T, F> {
+    ghost use Rattle.zv_owned.specs.Vectors.{vector_list};
+
+    /// Searches a range of the list, as [`VarZeroSlice::binary_search_in_range`].
+    #[inline]
+    pub fn binary_search_in_range<Q: ZvOrdArg<T>>(
+        &self,
+        needle: &Q,
+        range: Range<usize>,
+    ) -> Option<Result<usize, usize>>
+        requires below { length (Q.bytes needle.now) < 2 ^ 64 }
+        ensures none { IsNone result ↔
+            ((length (vector_list self.now) < range.end) ⊎ (range.end < range.start)) }
+        ensures found { IfSome result (Found (slice_range
+            (compared T.cmp (vector_list self.now) (Q.bytes needle.now)) range.start range.end)) }
+    {
+        self.as_slice().binary_search_in_range(needle, range)
+    }
+
+    /// Searches the list, as [`VarZeroSlice::binary_search`].
+    #[inline]
+    pub fn binary_search<Q: ZvOrdArg<T>>(&self, needle: &Q) -> Result<usize, usize>
+        requires below { length (Q.bytes needle.now) < 2 ^ 64 }
+        ensures { Found (compared T.cmp (vector_list self.now) (Q.bytes needle.now)) result }
+    {
+        self.as_slice().binary_search(needle)
+    }
+}
+
+impl<'a, T: ZvKind, F: VarZeroVecFormat> From<VarZeroSlice<'a, T, F>> for VarZeroVec<'a, T, F> {
+    ghost use Rattle.zv_owned.specs.Vectors.{vector_bytes, vector_list, vector_owned};
+
+    /// As [`VarZeroVec::new_borrowed`].
+    #[inline]
+    fn from(view: VarZeroSlice<'a, T, F>) -> Self
+        ensures list { vector_list result ≡ list_of view.entry }
+        ensures bytes { vector_bytes result ≡ bytes_of view.entry }
+        ensures owned { vector_owned result ≡ false }
+    {
+        VarZeroVec::new_borrowed(view)
+    }
+}
+
+impl<'a, T: ZvKind, F: VarZeroVecFormat> From<VarZeroVecOwned<T, F>> for VarZeroVec<'a, T, F> {
+    ghost use Rattle.zv_owned.specs.Vectors.{vector_bytes, vector_list, vector_owned, vector_spare};
+
+    /// As [`VarZeroVec::new_owned`].
+    #[inline]
+    fn from(owned: VarZeroVecOwned<T, F>) -> Self
+        ensures list { vector_list result ≡ owned.list }
+        ensures bytes { vector_bytes result ≡ owned.bytes }
+        ensures spare { vector_spare result ≡ owned.spare }
+        ensures owned { vector_owned result ≡ true }
+    {
+        VarZeroVec::new_owned(owned)
+    }
+}
