@@ -1,0 +1,4 @@
+pub mod Ascents
+pub mod Predicates
+pub mod FixedLists
+pub mod VariableLists

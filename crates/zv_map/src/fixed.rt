@@ -1,0 +1,206 @@
+// The container of elements of one width.
+ghost use Rattle.std.specs.Prelude.{◌≡◌, ℕ, ◌<◌, List, [], length, IsTrue, true};
+ghost use Rattle.std.specs.List.{concat};
+ghost use Rattle.zv_ule.specs.Chunks.{chunks_fault, chunks_of};
+ghost use Rattle.zv_map.specs.Forms.{is_fixed};
+ghost use Rattle.zv_map.specs.Keys.{nth};
+ghost use Rattle.zv_map.specs.declared.view.Form.TheVariants.{Fixed};
+
+use crate::error::MapError;
+use crate::vecs::{MutableZeroVecLike, ZeroVecLike, ZvContainer};
+use crate::view::{Form, KvSlice, RawView};
+use std::alloc::Global;
+use zv_fixed::slice::ZeroSlice;
+use zv_fixed::vector::ZeroVec;
+use zv_ule::NoMemory;
+use zv_ule::argument::ZvArg;
+use zv_ule::chunks::chunk_at;
+use zv_ule::element::{AsULE, ULE, load};
+use zv_ule::error::UleError;
+use zv_ule::view::VarRef;
+
+impl<'a, T: AsULE> ZeroVecLike<T> for ZeroVec<'a, T> {
+    ghost use Rattle.zv_map.specs.Views.{bytes_of, list_of};
+
+    ghost list = { λ v. chunks_of T.ULE.width v.bytes };
+
+    ghost bytes = { λ v. v.bytes };
+
+    ghost form = { λ v. Fixed T.ULE.width };
+
+    #[inline]
+    fn zvl_new_borrowed() -> KvSlice<'static, T>
+        requires { IsTrue T.usable }
+        ensures list { list_of result ≡ [] }
+        ensures bytes { bytes_of result ≡ [] }
+    {
+        KvSlice::<'static, T>::zvl_new_borrowed()
+    }
+
+    #[inline]
+    fn zvl_as_borrowed(&self) -> KvSlice<'_, T> {
+        self.all_read();
+        let raw = RawView {
+            bytes: self.as_bytes(),
+            form: Form::Fixed(<T::ULE as ULE>::size()),
+        };
+        KvSlice::of_valid(raw)
+    }
+
+    #[inline]
+    fn zvl_len(&self) -> usize {
+        self.all_read();
+        self.len()
+    }
+
+    #[inline]
+    fn zvl_get(&self, index: usize) -> Option<VarRef<'_, T>> {
+        self.zvl_as_borrowed().get(index)
+    }
+}
+
+/// The value of the element at a place.
+#[inline]
+fn value_at<T: AsULE>(list: &ZeroVec<'_, T>, index: usize) -> T
+    requires { index < length (chunks_of T.ULE.width list.now.bytes) }
+    ensures { T.ULE.chunk (T.stored result) ≡ nth (chunks_of T.ULE.width list.now.bytes) index }
+{
+    list.all_read();
+    load::<T>(chunk_at::<T::ULE>(list.as_bytes(), index))
+}
+
+impl<'a, T: AsULE> ZvContainer<T> for ZeroVec<'a, T> {
+    ghost use Rattle.std.proofs.Common.{arith};
+
+    type OwnedType = T;
+
+    ghost spare = { λ v. v.spare };
+
+    ghost owned = { λ v. v.owned };
+
+    ghost ready = { λ v. v.owned };
+
+    ghost field = { 0 };
+
+    ghost takes_insert = { λ _ _. true };
+
+    ghost takes_replace = { λ _ _ _. true };
+
+    ghost has_form = { is_fixed T.ULE.width };
+
+    ghost parse_fault = { chunks_fault T.ULE.TY T.ULE.width T.ULE.chunk_fault };
+
+    ghost parse_list = { chunks_of T.ULE.width };
+
+    ghost spelling = { concat };
+
+    ghost small_field = { Prim.omega arith };
+
+    ghost ready_owned = { λ v h. h };
+
+    ghost owned_ready = { λ v h _. h };
+
+    #[inline]
+    fn zvl_is_owned(&self) -> bool {
+        self.is_owned()
+    }
+
+    #[inline]
+    fn zvl_bytes(&self) -> &[u8] {
+        self.as_bytes()
+    }
+
+    #[inline]
+    fn zvl_spelling(&self) -> &[u8] {
+        self.as_bytes()
+    }
+
+    #[inline]
+    fn zvl_takes_insert(&self, _len: usize) -> bool {
+        true
+    }
+
+    #[inline]
+    fn zvl_takes_replace(&self, _index: usize, _len: usize) -> bool {
+        true
+    }
+
+    #[inline]
+    fn zvl_clear(&mut self) {
+        self.remove_all();
+    }
+}
+
+impl<'a, T: AsULE> MutableZeroVecLike<'a, T> for ZeroVec<'a, T> {
+    #[inline]
+    fn zvl_new() -> Self {
+        ZeroVec::new()
+    }
+
+    #[inline]
+    fn zvl_parse(bytes: &'a [u8]) -> Result<Self, UleError> {
+        ZeroVec::parse_bytes(bytes)
+    }
+
+    #[inline]
+    fn zvl_from_borrowed(b: RawView<'a>) -> Option<Self> {
+        if b.bytes.is_empty() {
+            return Some(ZeroVec::new());
+        }
+        match b.form {
+            Form::Fixed(width) if width == <T::ULE as ULE>::size() => {
+                Some(ZeroVec::new_borrowed(ZeroSlice::of_valid(b.bytes)))
+            }
+            _ => None,
+        }
+    }
+
+    #[inline]
+    fn zvl_as_borrowed_inner(&self) -> Option<RawView<'a>> {
+        self.all_read();
+        let view = self.as_maybe_borrowed()?;
+        Some(RawView {
+            bytes: view.as_bytes(),
+            form: Form::Fixed(<T::ULE as ULE>::size()),
+        })
+    }
+
+    #[inline]
+    fn zvl_clone(&self, alloc: Global) -> Result<Self, NoMemory> {
+        self.clone(alloc)
+    }
+
+    #[inline]
+    fn zvl_insert<Q: ZvArg<T>>(
+        &mut self,
+        alloc: Global,
+        index: usize,
+        value: &Q,
+    ) -> Result<(), MapError> {
+        self.insert_arg(alloc, index, value)?;
+        Ok(())
+    }
+
+    #[inline]
+    fn zvl_push<Q: ZvArg<T>>(&mut self, alloc: Global, value: &Q) -> Result<(), MapError> {
+        self.zvl_insert(alloc, self.zvl_len(), value)
+    }
+
+    #[inline]
+    fn zvl_replace<Q: ZvArg<T>>(
+        &mut self,
+        alloc: Global,
+        index: usize,
+        value: &Q,
+    ) -> Result<T, MapError> {
+        let old = value_at(self, index);
+        self.set_arg(alloc, index, value)?;
+        Ok(old)
+    }
+
+    #[inline]
+    fn zvl_remove(&mut self, alloc: Global, index: usize) -> Result<T, NoMemory> {
+        self.all_read();
+        self.remove(alloc, index)
+    }
+}

@@ -1,0 +1,24 @@
+//! Lists of elements of one kind, however they are kept: the containers that maps are made of.
+//!
+//! A kind names its container by [`ZeroMapKV`]: a [`ZeroVec`](zv_fixed::ZeroVec) where the elements
+//! have one width, a [`VarZeroVec`](zv_owned::VarZeroVec) where they have any length. A map knows its
+//! containers through the traits alone: [`ZeroVecLike`] to read, [`ZeroVecSearch`] and
+//! [`ZeroVecSearchBy`] to search, [`ZvContainer`] for what a container means,
+//! [`MutableZeroVecLike`] to change. A [`KvSlice`] views the list of any of them.
+#![tactic(auto)]
+
+pub mod error;
+mod fixed;
+mod kv;
+mod order;
+pub mod predicate;
+pub mod search;
+mod variable;
+pub mod vecs;
+pub mod view;
+
+pub use error::{MapError, TooLarge};
+pub use predicate::ZeroVecSearchBy;
+pub use search::ZeroVecSearch;
+pub use vecs::{MutableZeroVecLike, ZeroMapKV, ZeroVecLike, ZvContainer};
+pub use view::{Form, KvSlice, RawView};

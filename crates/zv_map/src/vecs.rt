@@ -1,0 +1,235 @@
+// What the containers of maps are.
+ghost use Rattle.std.specs.Prelude.{◌≡◌, ℕ, ◌==◌, ◌||◌, ◌+◌, ◌^◌, ◌<◌, ◌≤◌, List, [], ◌∷◌, ◌++◌, length, Option, is_some, IfSome, Bool, true, false, not, IsTrue, IfOk, OnOk, OnErr, set};
+ghost use Rattle.std.specs.List.{insert, remove, slice_get};
+ghost use Rattle.std.specs.Option.{option_map};
+ghost use Rattle.std.specs.Result.{result_err};
+ghost use Rattle.zv_ule.specs.Views.{element_of};
+ghost use Rattle.zv_ule.specs.declared.error.UleError.{UleError};
+ghost use Rattle.zv_map.specs.Forms.{list_in, spells_in};
+ghost use Rattle.zv_map.specs.Keys.{nth};
+ghost use Rattle.zv_map.specs.Refusals.{TooLargeUnless};
+ghost use Rattle.zv_map.specs.Views.{bytes_of, list_of};
+ghost use Rattle.zv_map.specs.declared.view.Form.{Form};
+
+use crate::error::MapError;
+use crate::view::{KvSlice, RawView};
+use std::alloc::Global;
+use zv_ule::NoMemory;
+use zv_ule::argument::ZvArg;
+use zv_ule::error::UleError;
+use zv_ule::kind::ZvKind;
+use zv_ule::view::VarRef;
+
+/// A list of elements of a kind that is read in place.
+pub trait ZeroVecLike<T: ZvKind>: Sized {
+    /// The elements, each as its bytes.
+    ghost list: { Self → List (List ℕ) };
+
+    /// The bytes, which spell the list in the container's form.
+    ghost bytes: { Self → List ℕ };
+
+    /// How the bytes spell the list.
+    ghost form: { Self → Form };
+
+    /// The empty list, in a view that has no bytes.
+    fn zvl_new_borrowed() -> KvSlice<'static, T>
+        requires { IsTrue T.usable }
+        ensures list { list_of result ≡ [] }
+        ensures bytes { bytes_of result ≡ [] };
+
+    /// A view of the same list, of the same bytes in the same form.
+    fn zvl_as_borrowed(&self) -> KvSlice<'_, T>
+        ensures list { list_of result ≡ list self.now }
+        ensures bytes { bytes_of result ≡ bytes self.now }
+        ensures form { result.form ≡ form self.now };
+
+    /// How many elements there are.
+    fn zvl_len(&self) -> usize
+        ensures { result ≡ length (list self.now) };
+
+    /// Whether there is no element.
+    #[inline]
+    fn zvl_is_empty(&self) -> bool
+        ensures { result ≡ (length (list self.now) == 0) }
+    {
+        self.zvl_len() == 0
+    }
+
+    /// The element at a place, counted from 0, or `None` from the end on.
+    fn zvl_get(&self, index: usize) -> Option<VarRef<'_, T>>
+        ensures { option_map element_of result ≡ slice_get (list self.now) index };
+}
+
+/// A container that borrows or owns the bytes of its list. What it means for contracts stands here,
+/// and its changes in [`MutableZeroVecLike`]: a trait with a lifetime can't have meanings.
+pub trait ZvContainer<T: ZvKind>: ZeroVecLike<T> {
+    /// An element that was taken out: the value where elements have one width, a box else.
+    type OwnedType: ZvArg<T> + Drop;
+
+    /// How many bytes the container can grow by without memory.
+    ghost spare: { Self → ℕ };
+
+    /// Whether it owns its bytes.
+    ghost owned: { Self → Bool };
+
+    /// Whether a change may come that takes no memory.
+    ghost ready: { Self → Bool };
+
+    /// How many bytes a new element takes beside its own.
+    ghost field: { ℕ };
+
+    /// Whether the list takes one element more, of so many bytes.
+    ghost takes_insert: { List (List ℕ) → ℕ → Bool };
+
+    /// Whether the list takes an element of so many bytes in the place of the one there.
+    ghost takes_replace: { List (List ℕ) → ℕ → ℕ → Bool };
+
+    /// Whether bytes in the form can be the container's.
+    ghost has_form: { Form → Bool };
+
+    /// The error of bytes that spell no list, or nothing where they spell one.
+    ghost parse_fault: { List ℕ → Option UleError };
+
+    /// The list that bytes spell.
+    ghost parse_list: { List ℕ → List (List ℕ) };
+
+    /// The bytes that a list is written as: none where it is empty.
+    ghost spelling: { List (List ℕ) → List ℕ };
+
+    /// Whether the container owns its bytes.
+    fn zvl_is_owned(&self) -> bool
+        ensures { result ≡ owned self.now };
+
+    /// The bytes. They are those that were borrowed, or as the last change left them.
+    fn zvl_bytes(&self) -> &[u8]
+        ensures bytes { result.now ≡ Self.bytes self.now }
+        ensures sound { parse_fault result.now ≡ None }
+        ensures list { parse_list result.now ≡ Self.list self.now };
+
+    /// The bytes that the list is written as, which lie in the container's own: all of them, but
+    /// none where the list is empty.
+    fn zvl_spelling(&self) -> &[u8]
+        ensures { result.now ≡ spelling (Self.list self.now) };
+
+    /// Whether the list takes one element more, of `len` bytes, by the container's size rule.
+    fn zvl_takes_insert(&self, len: usize) -> bool
+        ensures { result ≡ takes_insert (Self.list self.now) len };
+
+    /// Whether the list takes an element of `len` bytes in the place of the one at `index`, by the
+    /// container's size rule.
+    fn zvl_takes_replace(&self, index: usize, len: usize) -> bool
+        requires { index < length (Self.list self.now) }
+        ensures { result ≡ takes_replace (Self.list self.now) index len };
+
+    /// The empty list, with the variant unchanged. It takes no memory and lowers no spare.
+    fn zvl_clear(&mut self)
+        ensures list { Self.list self.new ≡ [] }
+        ensures bytes { Self.bytes self.new ≡ [] }
+        ensures owned { owned self.new ≡ owned self.old }
+        ensures spare { spare self.old ≤ spare self.new };
+
+    /// A field is at most four bytes.
+    ghost small_field: { field ≤ 4 };
+
+    /// A container that is ready owns its bytes.
+    ghost ready_owned: { (x : Self) → ready x ≡ true → owned x ≡ true };
+
+    /// A container that owns its bytes and has room for a field is ready.
+    ghost owned_ready: { (x : Self) → owned x ≡ true → field ≤ spare x → ready x ≡ true };
+}
+
+/// A container whose list can be changed. Bytes that are borrowed are never written: the first
+/// change makes the container own its bytes. A refused change leaves the container as it was.
+pub trait MutableZeroVecLike<'a, T: ZvKind>: ZvContainer<T> {
+    /// The empty list, borrowed.
+    fn zvl_new() -> Self
+        requires { IsTrue T.usable }
+        ensures list { Self.list result ≡ [] }
+        ensures bytes { Self.bytes result ≡ [] }
+        ensures owned { Self.owned result ≡ false };
+
+    /// The list that bytes spell, borrowed.
+    fn zvl_parse(bytes: &'a [u8]) -> Result<Self, UleError>
+        requires { IsTrue T.usable }
+        ensures error { result_err result ≡ Self.parse_fault bytes.now }
+        ensures list { IfOk result (λ c. Self.list c ≡ Self.parse_list bytes.now) }
+        ensures bytes { IfOk result (λ c. Self.bytes c ≡ bytes.now) }
+        ensures owned { IfOk result (λ c. Self.owned c ≡ false) };
+
+    /// The list of a view, borrowed, or `None` where the view has bytes and a form that isn't the
+    /// container's.
+    fn zvl_from_borrowed(b: RawView<'a>) -> Option<Self>
+        requires usable { IsTrue T.usable }
+        requires spells { IsTrue (spells_in b.form T.fault b.bytes.now) }
+        ensures fits { is_some result ≡ (length b.entry.bytes.now == 0 || Self.has_form b.entry.form) }
+        ensures list { IfSome result (λ c. Self.list c ≡ list_in b.entry.form b.entry.bytes.now) }
+        ensures bytes { IfSome result (λ c. Self.bytes c ≡ b.entry.bytes.now) }
+        ensures owned { IfSome result (λ c. Self.owned c ≡ false) };
+
+    /// A view that lives as long as the bytes that the container borrows, or `None` where it owns
+    /// them.
+    fn zvl_as_borrowed_inner(&self) -> Option<RawView<'a>>
+        ensures borrowed { is_some result ≡ not (Self.owned self.now) }
+        ensures list { IfSome result (λ b. list_in b.form b.bytes.now ≡ Self.list self.now) }
+        ensures bytes { IfSome result (λ b. b.bytes.now ≡ Self.bytes self.now) }
+        ensures form { IfSome result (λ b. b.form ≡ Self.form self.now) }
+        ensures usable { IfSome result (λ _. IsTrue T.usable) }
+        ensures spells { IfSome result (λ b. IsTrue (spells_in b.form T.fault b.bytes.now)) };
+
+    /// A container with the same list, bytes and variant.
+    fn zvl_clone(&self, alloc: Global) -> Result<Self, NoMemory>
+        ensures list { IfOk result (λ c. Self.list c ≡ Self.list self.now) }
+        ensures bytes { IfOk result (λ c. Self.bytes c ≡ Self.bytes self.now) }
+        ensures owned { IfOk result (λ c. Self.owned c ≡ Self.owned self.now) };
+
+    /// Puts an element at a place, before the one that stands there.
+    fn zvl_insert<Q: ZvArg<T>>(
+        &mut self,
+        alloc: Global,
+        index: usize,
+        value: &Q,
+    ) -> Result<(), MapError>
+        requires below { length (Q.bytes value.now) < 2 ^ 64 }
+        requires place { index ≤ length (Self.list self.old) }
+        ensures ok { OnOk result (Self.list self.new ≡ insert (Self.list self.old) index (Q.bytes value.now)) }
+        ensures owned { OnOk result (Self.owned self.new ≡ true) }
+        ensures err { OnErr result (self.new ≡ self.old) }
+        ensures refused { TooLargeUnless (Self.takes_insert (Self.list self.old) (length (Q.bytes value.now))) result };
+
+    /// Puts an element at the end.
+    fn zvl_push<Q: ZvArg<T>>(&mut self, alloc: Global, value: &Q) -> Result<(), MapError>
+        requires below { length (Q.bytes value.now) < 2 ^ 64 }
+        ensures ok { OnOk result (Self.list self.new ≡ Self.list self.old ++ Q.bytes value.now ∷ []) }
+        ensures owned { OnOk result (Self.owned self.new ≡ true) }
+        ensures err { OnErr result (self.new ≡ self.old) }
+        ensures refused { TooLargeUnless (Self.takes_insert (Self.list self.old) (length (Q.bytes value.now))) result };
+
+    /// Puts an element in the place of another, which is given back.
+    fn zvl_replace<Q: ZvArg<T>>(
+        &mut self,
+        alloc: Global,
+        index: usize,
+        value: &Q,
+    ) -> Result<Self::OwnedType, MapError>
+        requires below { length (Q.bytes value.now) < 2 ^ 64 }
+        requires place { index < length (Self.list self.old) }
+        ensures ok { OnOk result (Self.list self.new ≡ set (Self.list self.old) index (Q.bytes value.now)) }
+        ensures before { IfOk result (λ old. Self.OwnedType.bytes old ≡ nth (Self.list self.old) index) }
+        ensures owned { OnOk result (Self.owned self.new ≡ true) }
+        ensures err { OnErr result (self.new ≡ self.old) }
+        ensures refused { TooLargeUnless (Self.takes_replace (Self.list self.old) index (length (Q.bytes value.now))) result };
+
+    /// Takes an element out, which is given back.
+    fn zvl_remove(&mut self, alloc: Global, index: usize) -> Result<Self::OwnedType, NoMemory>
+        requires { index < length (Self.list self.old) }
+        ensures ok { OnOk result (Self.list self.new ≡ remove (Self.list self.old) index) }
+        ensures before { IfOk result (λ old. Self.OwnedType.bytes old ≡ nth (Self.list self.old) index) }
+        ensures owned { OnOk result (Self.owned self.new ≡ true) }
+        ensures err { OnErr result (self.new ≡ self.old) };
+}
+
+/// A kind that keys or values of maps are of, with the container that keeps its lists.
+pub trait ZeroMapKV<'a>: ZvKind {
+    /// The container of lists of the kind.
+    type Container: MutableZeroVecLike<'a, Self> + Drop;
+}
