@@ -62,6 +62,31 @@ def gets(table, size):
     return out + block * max(1, (size - len(out)) // len(block))
 
 
+def puts(size):
+    """The empty image and `put` lines of new pairs up to about `size` bytes: the lists fill, and then refuse."""
+    out, number, total = [field(image({})) + b"\n"], 0, 0
+    while total < size:
+        first, second = b"r%d" % (number % 64), b"k%d" % number
+        out.append(b"put " + field(first) + b" " + field(second) + b" " + field(struct.pack("<H", number % 65536)) + b"\n")
+        total += len(out[-1])
+        number += 1
+    return b"".join(out)
+
+
+def mixed(table, size):
+    """An image and lines that look up, replace, remove, put again and list rows, up to about `size` bytes."""
+    out, pairs = [field(image(table)) + b"\n"], [(a, b) for a in sorted(table) for b in sorted(table[a])]
+    total, number = len(out[0]), 0
+    while total < size:
+        first, second = pairs[number * 7919 % len(pairs)]
+        keys = field(first) + b" " + field(second)
+        block = [b"get " + keys, b"put " + keys + b" " + field(b"GB"), b"del " + keys, b"row " + field(first), b"put " + keys + b" " + field(b"US")]
+        out.append(b"\n".join(block) + b"\n")
+        total += len(out[-1])
+        number += 1
+    return b"".join(out)
+
+
 def measure(data, runs):
     least, peak = None, 0
     with tempfile.TemporaryDirectory() as folder:
@@ -97,6 +122,9 @@ def main():
         ("1 MB of get lines, 2800 pairs", gets(locales, 1_000_000)),
         ("15 MB of get lines, 2800 pairs", gets(locales, 15_000_000)),
         ("a value of 4,000,000 bytes, no lines", field(image(long)) + b"\n"),
+        ("1 MB of put lines, from the empty map", puts(1_000_000)),
+        ("1 MB of get, put, del, row, 2800 pairs", mixed(locales, 1_000_000)),
+        ("100 KB of get, put, del, row, 2800 pairs", mixed(locales, 100_000)),
     ]
     print(f"{'input':40} {'bytes':>10} {'processor':>10} {'peak':>10} {'peak/input':>10}")
     for name, data in inputs:

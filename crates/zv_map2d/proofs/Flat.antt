@@ -18,7 +18,7 @@ take_front xs ys n e = rw e (grind (arith, common_steps))
 drop_front : {X : Type 0} (xs ys : List X) (n : ℕ) → n ≡ length xs → drop n (xs ++ ys) ≡ ys
 drop_front xs ys n e = rw e (grind (arith, common_steps))
 
-zip_parts : (r : List (Bytes × Bytes)) → zip (keys r) (contents r) ≡ r
+pub zip_parts : (r : List (Bytes × Bytes)) → zip (keys r) (contents r) ≡ r
 zip_parts [] = refl
 zip_parts (p ∷ r) = ap (λ z. p ∷ z) (zip_parts r)
 
@@ -122,7 +122,7 @@ pub view_of : (k0s : List Bytes) (es : List ℕ) (k1s vs : List Bytes) (m : Rows
 view_of k0s es k1s vs m h =
     ap (λ z. rows_from 0 z es k1s vs) h.firsts_are ∙ ap (λ z. rows_from 0 (firsts m) z k1s vs) h.ends_are ∙ ap (λ z. rows_from 0 (firsts m) (ends m) z vs) h.seconds_are ∙ ap (λ z. rows_from 0 (firsts m) (ends m) (seconds m) z) h.values_are ∙ rows_of_flat 0 m
 
-none_of : {X : Type 0} (xs : List X) → length xs ≡ 0 → xs ≡ []
+pub none_of : {X : Type 0} (xs : List X) → length xs ≡ 0 → xs ≡ []
 none_of [] e = refl
 none_of (x ∷ xs) e = absurd (omega arith)
 

@@ -11,30 +11,25 @@ use Rattle.std.specs.List.{slice_get}
 use Rattle.std.specs.List.Sorted.{IsStrictlySortedBy}
 use Rattle.std.specs.Result.{MatchResult}
 use Rattle.zv_ule.specs.Search.{compared, answer_at, Rises, IsHit, IsGap, Found}
+pub use Rattle.zv_map2d.specs.Found.{IsAt}
 use Rattle.zv_map2d.specs.Keys.{Bytes, nth}
 use Rattle.zv_map2d.specs.Pairs.{keys, contents, look_up}
 
--- a hit with all smaller keys before it
-pub record IsAt (answers : List Ordering) (i : ℕ) : Type 0 where
-  pub within : i < length answers
-  pub less : (j : ℕ) → j < i → answer_at answers j ≡ Less
-  pub equal : answer_at answers i ≡ Equal
-
-gap_tail : (a : Ordering) (answers : List Ordering) (i : ℕ) → IsGap (a ∷ answers) (suc i) → IsGap answers i
+pub gap_tail : (a : Ordering) (answers : List Ordering) (i : ℕ) → IsGap (a ∷ answers) (suc i) → IsGap answers i
 gap_tail a answers i g = record {
   within = omega (arith, g.within);
   less = λ j h. g.less (suc j) (omega arith);
   greater = λ j h w. g.greater (suc j) (omega arith) (omega arith);
 }
 
-gap_first : (a : Ordering) (answers : List Ordering) → IsGap (a ∷ answers) 0 → IsGap answers 0
+pub gap_first : (a : Ordering) (answers : List Ordering) → IsGap (a ∷ answers) 0 → IsGap answers 0
 gap_first a answers g = record {
   within = omega arith;
   less = λ j l. absurd (omega arith);
   greater = λ j l w. g.greater (suc j) (omega arith) (omega arith);
 }
 
-at_tail : (a : Ordering) (answers : List Ordering) (i : ℕ) → IsAt (a ∷ answers) (suc i) → IsAt answers i
+pub at_tail : (a : Ordering) (answers : List Ordering) (i : ℕ) → IsAt (a ∷ answers) (suc i) → IsAt answers i
 at_tail a answers i g = record {
   within = omega (arith, g.within);
   less = λ j h. g.less (suc j) (omega arith);
@@ -58,7 +53,7 @@ index_top Less = omega arith
 index_top Equal = omega arith
 index_top Greater = omega arith
 
-compared_at : (order : Bytes → Bytes → Ordering) (k : Bytes) (ks : List Bytes) (i : ℕ) → i < length ks → answer_at (compared order ks k) i ≡ order (nth ks i) k
+pub compared_at : (order : Bytes → Bytes → Ordering) (k : Bytes) (ks : List Bytes) (i : ℕ) → i < length ks → answer_at (compared order ks k) i ≡ order (nth ks i) k
 compared_at order k [] i h = absurd (omega arith)
 compared_at order k (x ∷ ks) zero h = refl
 compared_at order k (x ∷ ks) (suc i) h = compared_at order k ks i (omega arith)
@@ -90,7 +85,7 @@ module _ {order : Bytes → Bytes → Ordering} (total : IsTotalOrder order) (k 
       let t = rises_by ks up i j a (omega (arith, l, b)) in
       omega (arith, t, ap ordering_index (compared_at order k ks i (omega (arith, l, a, b))), ap ordering_index (compared_at order k ks j (omega (arith, l, b))))
 
-  hit_is_at : (ks : List Bytes) → IsStrictlySortedBy order ks → (i : ℕ) → IsHit (compared order ks k) i → IsAt (compared order ks k) i
+  pub hit_is_at : (ks : List Bytes) → IsStrictlySortedBy order ks → (i : ℕ) → IsHit (compared order ks k) i → IsAt (compared order ks k) i
   hit_is_at ks up i h =
       let l : length (compared order ks k) ≡ length ks = length-map ks (λ x. order x k) in
       let w : i < length ks = omega (arith, l, h.within) in

@@ -11,7 +11,8 @@ use Rattle.zv_var.proofs.Read.{le-fields}
 use Rattle.zv_map2d.specs.Keys.{Bytes, ascends}
 use Rattle.zv_map2d.specs.Rows.{Rows, firsts, seconds, ends, IsWell, IsFlat}
 use Rattle.zv_map2d.specs.Frame.{Parts}
-use Rattle.zv_map2d.specs.Causes.{Kinds, numbers, Lists, lists, climbs, last_of, stretches, first_cause, lists_causes, causes, parts_fault, rows_of_lists, rows_of_parts}
+use Rattle.zv_map2d.specs.Views.{IsHeld}
+use Rattle.zv_map2d.specs.Causes.{Kinds, numbers, Lists, lists, climbs, last_of, stretches, first_cause, lists_causes, causes, parts_fault, rows_of_lists, rows_of_parts, lists_fault}
 use Rattle.zv_map2d.specs.declared.error.EditError.{EditError}
 use Rattle.zv_map2d.proofs.Flat.{IsClimb, flat_of_rows, length_ends, values_as_many}
 use Rattle.zv_map2d.proofs.Orders.{sorted_from_ascends, ascends_from_sorted, climb_from, rows_well, climbs_ends, last_of-ends, stretches_ascend}
@@ -99,6 +100,10 @@ module _ (o0 o1 : Bytes → Bytes → Ordering) (l : Lists) where
     subst (λ (z : List Bytes). IsStrictlySortedBy o0 z) (flat_lists k).firsts_are (sorted_from_ascends o0 t0 l.keys0 k.up0),
     rows_well o1 t1 0 l.keys0 l.joiner l.keys1 l.values (sym k.even1) (climb_from 0 (length l.keys1) l.joiner k.climb k.end) k.up1,
   )
+
+  -- lists without a cause are those of a map
+  pub held_lists : IsTotalOrder o0 → IsTotalOrder o1 → lists_fault o0 o1 l ≡ None → IsHeld o0 o1 l (rows_of_lists l)
+  held_lists t0 t1 e = let k = fitting (none_holds (lists_causes o0 o1 l) e) in record { flat = flat_lists k; well = well_lists t0 t1 k }
 
   -- the lists of a map fit
   pub fitting_of_flat : (m : Rows) → IsFlat l.keys0 l.joiner l.keys1 l.values m → IsWell o0 o1 m → IsFitting o0 o1 l

@@ -11,7 +11,7 @@ use Rattle.zv_map2d.specs.Frame.{Parts, frame, unframe}
 use Rattle.zv_map2d.specs.Causes.{is_cause, is_parts_cause, causes, first_cause, parts_fault, rows_of_parts}
 use Rattle.zv_map2d.specs.Image.{texts_to_bytes, IsTextMap, Stands, spelling, fault_of, fault, canon}
 use Rattle.zv_map2d.specs.Laws.{IsCodable}
-use Rattle.zv_map2d.specs.Views.{Map2d, map_of}
+use Rattle.zv_map2d.specs.Views.{Map2d, parts_of}
 use Rattle.zv_map2d.specs.declared.error.EditError.{EditError}
 use Rattle.zv_map2d.specs.declared.error.EditError.TheVariants.{Frame, Ule, Keys0Joiner, Keys1Values, JoinerOrder, JoinerEnd, KeyOrder, Memory, Write}
 use Rattle.zv_map2d.proofs.Frames.{unframe-frame, frame-unframe}
@@ -89,13 +89,13 @@ no_frame image bytes none =
     by (unframe image) refl
 
 -- what reading an image gives
-pub map_stands : (image : List ℕ) (p : Parts) (r : Result Map2d EditError) → IsBytes image → Some p ≡ unframe image → result_err r ≡ parts_fault texts_to_bytes p → IfOk r (λ m. m ≡ map_of p) → IfOk r (λ m. Stands image m.rows)
+pub map_stands : (image : List ℕ) (p : Parts) (r : Result Map2d EditError) → IsBytes image → Some p ≡ unframe image → result_err r ≡ parts_fault texts_to_bytes p → IfOk r (λ m. m.rows ≡ rows_of_parts p) → IfOk r (λ m. Stands image m.rows)
 map_stands image p (Ok m) bytes e f same =
-    subst (λ (q : Map2d). Stands image q.rows) (sym same) (stands_parts image p bytes (sym e) (sym f))
+    subst (λ (q : Rows). Stands image q) (sym same) (stands_parts image p bytes (sym e) (sym f))
 map_stands image p (Err x) bytes e f same = tt
 
-pub parts_frame : (image : List ℕ) (p : Parts) (r : Result Map2d EditError) → IsBytes image → Some p ≡ unframe image → IfOk r (λ m. m ≡ map_of p) → IfOk r (λ m. image ≡ frame m.parts)
-parts_frame image p (Ok m) bytes e same = (frame-unframe image p bytes (sym e)).0 ∙ ap (λ (q : Map2d). frame q.parts) (sym same)
+pub parts_frame : (image : List ℕ) (p : Parts) (r : Result Map2d EditError) → IsBytes image → Some p ≡ unframe image → IfOk r (λ m. parts_of m ≡ p) → IfOk r (λ m. image ≡ frame (parts_of m))
+parts_frame image p (Ok m) bytes e same = (frame-unframe image p bytes (sym e)).0 ∙ ap frame (sym same)
 parts_frame image p (Err x) bytes e same = tt
 
 -- a cause that lies in the parts lies in the image

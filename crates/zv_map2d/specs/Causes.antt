@@ -124,6 +124,37 @@ lists_fault order0 order1 l = first_cause (lists_causes order0 order1 l)
 abbrev pub parts_fault : Kinds → Parts → Option EditError
 parts_fault k p = first_cause (causes k p)
 
+-- ---- the causes of parts that containers of any forms read
+
+-- how the containers of a map's first keys, second keys and values read bytes, and the orders of the keys
+pub record Readings : Type 0 where
+  pub fault0 : Bytes → Option UleError
+  pub fault1 : Bytes → Option UleError
+  pub fault2 : Bytes → Option UleError
+  pub list0 : Bytes → List Bytes
+  pub list1 : Bytes → List Bytes
+  pub list2 : Bytes → List Bytes
+  pub order0 : Bytes → Bytes → Ordering
+  pub order1 : Bytes → Bytes → Ordering
+
+-- the lists that the containers read parts as
+abbrev pub lists_read : Readings → Parts → Lists
+lists_read r p = record { keys0 = r.list0 p.keys0; joiner = numbers p.joiner; keys1 = r.list1 p.keys1; values = r.list2 p.values }
+
+-- a part's own error, else what follows
+abbrev pub part_or : Option UleError → Option EditError → Option EditError
+part_or None rest = rest
+part_or (Some e) rest = Some (Ule e)
+
+-- why parts that containers read are those of no map: the joiner's error, then a part's own, then the first cause that lies in the lists
+abbrev pub read_fault : Readings → Parts → Option EditError
+read_fault r p =
+    if ragged p then Some (Ule (InvalidLength RawBytes4 (length p.joiner)))
+    else part_or (r.fault0 p.keys0) (part_or (r.fault1 p.keys1) (part_or (r.fault2 p.values)
+    (lists_fault r.order0 r.order1 (lists_read r p))))
+
+-- ---- errors
+
 -- whether an error lies in the image, and neither in memory nor in a sink
 abbrev pub is_cause : EditError → Bool
 is_cause Memory = false

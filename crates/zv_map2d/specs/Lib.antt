@@ -1,10 +1,15 @@
 pub mod Causes
+pub mod Changes
+pub mod Fits
+pub mod Found
 pub mod Frame
 pub mod Image
 pub mod ImageRows
+pub mod Iters
 pub mod Keys
 pub mod Laws
 pub mod Locales
 pub mod Pairs
+pub mod Refusals
 pub mod Rows
 pub mod Views

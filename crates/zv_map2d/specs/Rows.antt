@@ -3,7 +3,7 @@ use Rattle.std.specs.Prelude.{◌≡◌, ℕ, zero, suc, ◌+◌, ◌-◌, ◌<�
 use Rattle.std.specs.declared.cmp.Ordering.{Ordering}
 use Rattle.std.specs.List.{AllByRecursion}
 use Rattle.zv_map2d.specs.Keys.{Bytes}
-use Rattle.zv_map2d.specs.Pairs.{keys, IsMap, look_up}
+use Rattle.zv_map2d.specs.Pairs.{keys, IsMap, look_up, with_key, without_key}
 
 -- a map: for each first key its pairs of a second key and a value
 abbrev pub Rows : Type 0
@@ -51,6 +51,19 @@ row order m k0 = unwrap_or (look_up order m k0) []
 abbrev pub find : (Bytes → Bytes → Ordering) → (Bytes → Bytes → Ordering) → Rows → Bytes → Bytes → Option Bytes
 find order0 order1 m k0 k1 = look_up order1 (row order0 m k0) k1
 
+-- v for the pair of keys, whose row is made where it is missing
+abbrev pub put : (Bytes → Bytes → Ordering) → (Bytes → Bytes → Ordering) → Rows → Bytes → Bytes → Bytes → Rows
+put order0 order1 m k0 k1 v = with_key order0 m k0 (with_key order1 (row order0 m k0) k1 v)
+
+-- the row r for k0, or no row where r is empty
+abbrev pub with_row : (Bytes → Bytes → Ordering) → Rows → Bytes → List (Bytes × Bytes) → Rows
+with_row order m k0 [] = without_key order m k0
+with_row order m k0 (p ∷ r) = with_key order m k0 (p ∷ r)
+
+-- without the pair of keys, and without its row where that was its only pair
+abbrev pub del : (Bytes → Bytes → Ordering) → (Bytes → Bytes → Ordering) → Rows → Bytes → Bytes → Rows
+del order0 order1 m k0 k1 = with_row order0 m k0 (without_key order1 (row order0 m k0) k1)
+
 -- the rows that four lists stand for, the ends being counted from n
 abbrev pub rows_from : ℕ → List Bytes → List ℕ → List Bytes → List Bytes → Rows
 rows_from n [] es k1s vs = []
@@ -75,3 +88,15 @@ abbrev pub row_at : Rows → ℕ → List (Bytes × Bytes)
 row_at [] i = []
 row_at (r ∷ m) zero = r.1
 row_at (r ∷ m) (suc i) = row_at m i
+
+-- the ends, from row i on, with one pair more
+abbrev pub raise : ℕ → List ℕ → List ℕ
+raise i [] = []
+raise zero (e ∷ es) = (e + 1) ∷ raise zero es
+raise (suc i) (e ∷ es) = e ∷ raise i es
+
+-- the ends, from row i on, with one pair less
+abbrev pub lower : ℕ → List ℕ → List ℕ
+lower i [] = []
+lower zero (e ∷ es) = (e - 1) ∷ lower zero es
+lower (suc i) (e ∷ es) = e ∷ lower i es

@@ -1,14 +1,12 @@
-// The canonical spelling of lists and maps.
+// The canonical spelling of a map.
 ghost use Rattle.std.specs.Prelude.{◌≡◌};
 ghost use Rattle.zv_ule.specs.Bytes.{IsBytes};
-ghost use Rattle.zv_var.specs.Format.{enc};
-ghost use Rattle.zv_var.specs.Views.{list_of};
-ghost use Rattle.zv_map2d.specs.Image.{spelling};
+ghost use Rattle.zv_map2d.specs.Views.{written_parts};
 
-use crate::map::ZeroMap2d;
+use crate::map::Map2dOver;
 use crate::parts::Parts;
+use zv_map::ZvContainer;
 use zv_ule::kind::{ZvKind, ZvOrd};
-use zv_var::slice::VarZeroSlice16;
 
 /// Each element of a slice is a byte. It does nothing.
 pub(crate) fn know_bytes(bytes: &[u8])
@@ -17,27 +15,26 @@ pub(crate) fn know_bytes(bytes: &[u8])
     let _ = bytes;
 }
 
-/// The bytes that the list is written as: none for the empty list.
-fn canonical<'a, K: ZvKind>(list: VarZeroSlice16<'a, K>) -> &'a [u8]
-    ensures { result.now ≡ enc 2 (list_of list.entry) }
-{
-    let bytes = list.as_bytes();
-    know_bytes(bytes);
-    if list.is_empty() { &[] } else { bytes }
-}
-
-impl<'a, K0: ZvOrd, K1: ZvOrd, V: ZvKind> ZeroMap2d<'a, K0, K1, V> {
-    /// The parts of the map's canonical image, which lie in the map's own bytes: those of its vectors, but no bytes for an empty one.
+impl<
+    'a,
+    K0: ZvOrd,
+    K1: ZvOrd,
+    V: ZvKind,
+    C0: ZvContainer<K0>,
+    C1: ZvContainer<K1>,
+    D: ZvContainer<V>,
+> Map2dOver<'a, K0, K1, V, C0, C1, D> {
+    /// The parts of the map's canonical image, which lie in the map's own bytes: what its lists are written as.
     pub fn canon_parts(&self) -> Parts<'_>
-        ensures { record { keys0 = result.keys0.now; joiner = result.joiner.now; keys1 = result.keys1.now; values = result.values.now } ≡ spelling self.now.rows }
+        ensures { record { keys0 = result.keys0.now; joiner = result.joiner.now; keys1 = result.keys1.now; values = result.values.now } ≡ written_parts C0.spelling C1.spelling D.spelling self.now.rows }
     {
-        let joiner = self.joiner.as_bytes();
+        let joiner = self.joiner.as_slice().as_bytes();
         know_bytes(joiner);
         Parts {
-            keys0: canonical(self.keys0),
+            keys0: self.keys0.zvl_spelling(),
             joiner,
-            keys1: canonical(self.keys1),
-            values: canonical(self.values),
+            keys1: self.keys1.zvl_spelling(),
+            values: self.values.zvl_spelling(),
         }
     }
 }

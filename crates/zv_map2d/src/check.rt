@@ -2,30 +2,31 @@
 ghost use Rattle.std.specs.Prelude.{◌≡◌, ℕ, IfErr, IsTrue, length};
 ghost use Rattle.std.specs.Result.{result_err};
 ghost use Rattle.zv_fixed.specs.Views.{values_in};
-ghost use Rattle.zv_var.specs.Views.{list_of};
 ghost use Rattle.zv_map2d.specs.Causes.{Lists, is_parts_cause, lists_fault};
 
 use crate::error::EditError;
 use crate::order::{all_ascend, top};
-use zv_fixed::slice::ZeroSlice;
+use zv_fixed::ZeroSlice;
+use zv_map::ZeroVecLike;
 use zv_ule::kind::{ZvKind, ZvOrd};
-use zv_var::slice::VarZeroSlice16;
 
 /// The first cause that lies in the lists.
-pub(crate) fn check_lists<K0: ZvOrd, K1: ZvOrd, V: ZvKind>(
-    keys0: VarZeroSlice16<'_, K0>,
-    joiner: ZeroSlice<'_, u32>,
-    keys1: VarZeroSlice16<'_, K1>,
-    values: VarZeroSlice16<'_, V>,
-) -> Result<(), EditError>
-    ensures error { result_err result ≡ lists_fault K0.cmp K1.cmp (record { keys0 = list_of keys0.entry; joiner = values_in joiner.entry; keys1 = list_of keys1.entry; values = list_of values.entry }) }
+pub(crate) fn check_lists<
+    K0: ZvOrd,
+    K1: ZvOrd,
+    V: ZvKind,
+    C0: ZeroVecLike<K0>,
+    C1: ZeroVecLike<K1>,
+    D: ZeroVecLike<V>,
+>(keys0: &C0, joiner: ZeroSlice<'_, u32>, keys1: &C1, values: &D) -> Result<(), EditError>
+    ensures error { result_err result ≡ lists_fault K0.cmp K1.cmp (record { keys0 = C0.list keys0.now; joiner = values_in joiner.entry; keys1 = C1.list keys1.now; values = D.list values.now }) }
     ensures cause { IfErr result (λ e. IsTrue (is_parts_cause e)) }
 {
-    let pairs = keys1.len();
-    if keys0.len() != joiner.len() {
+    let pairs = keys1.zvl_len();
+    if keys0.zvl_len() != joiner.len() {
         return Err(EditError::Keys0Joiner);
     }
-    if pairs != values.len() {
+    if pairs != values.zvl_len() {
         return Err(EditError::Keys1Values);
     }
     let Some(end) = top(joiner) else {
@@ -34,7 +35,7 @@ pub(crate) fn check_lists<K0: ZvOrd, K1: ZvOrd, V: ZvKind>(
     if end as usize != pairs {
         return Err(EditError::JoinerEnd);
     }
-    if !all_ascend(keys0, joiner, keys1) {
+    if !all_ascend::<K0, K1, C0, C1>(keys0, joiner, keys1) {
         return Err(EditError::KeyOrder);
     }
     Ok(())

@@ -1,7 +1,7 @@
 // Why an image or a change is refused.
 
 use thiserror::Error;
-use zv_ule::error::UleError;
+use zv_ule::error::{NoMemory, UleError};
 
 /// Why an image is no map, or why an edit of it fails.
 ///
@@ -35,4 +35,29 @@ pub enum EditError {
     /// The sink took no more.
     #[error("the output could not be written")]
     Write,
+}
+
+/// Why a pair isn't put into a map. The map is unchanged.
+#[derive(Clone, Copy, Debug, PartialEq, Eq, Error)]
+pub enum Map2dError {
+    /// A key or the value is too large for its vector, or the vector would be.
+    #[error("too large")]
+    TooLarge,
+    /// The map has 2^32 - 1 pairs.
+    #[error("too many pairs")]
+    TooMany,
+    /// No memory was given.
+    #[error("out of memory")]
+    Memory,
+}
+
+impl From<NoMemory> for Map2dError {
+    ghost use Rattle.std.specs.Prelude.{◌≡◌};
+    ghost use Rattle.zv_map2d.specs.declared.error.Map2dError.{Map2dError};
+
+    ghost from_gives = { λ _ e. e ≡ Map2dError.Memory };
+
+    fn from(_error: NoMemory) -> Map2dError {
+        Map2dError::Memory
+    }
 }

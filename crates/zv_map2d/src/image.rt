@@ -5,6 +5,7 @@ ghost use Rattle.std.specs.Result.{result_err};
 ghost use Rattle.zv_map2d.specs.Causes.{is_cause};
 ghost use Rattle.zv_map2d.specs.Frame.{Parts as PartsSeen, frame, unframe};
 ghost use Rattle.zv_map2d.specs.Image.{Stands, fault};
+ghost use Rattle.zv_map2d.specs.Views.{parts_of};
 
 use crate::canon::know_bytes;
 use crate::error::EditError;
@@ -39,18 +40,23 @@ pub fn cut_parts(image: &[u8]) -> Option<Parts<'_>>
 /// The map from two texts to bytes that an image stands for, read in the image's own bytes.
 ///
 /// The first cause in the order of [`EditError`]'s variants is told; it is never `Memory` or `Write`.
-/// It costs what [`ZeroMap2d::parse_parts`] does and takes no memory.
+/// It costs what [`parse_parts`](crate::Map2dOver::parse_parts) does and takes no memory.
 pub fn parse_image<'a>(
     image: &'a [u8],
 ) -> Result<ZeroMap2d<'a, StrULE, StrULE, SliceULE<u8>>, EditError>
     ensures error { result_err result ≡ fault image.now }
     ensures map { IfOk result (λ m. Stands image.now m.rows) }
-    ensures parts { IfOk result (λ m. image.now ≡ frame m.parts) }
+    ensures parts { IfOk result (λ m. image.now ≡ frame (parts_of m)) }
     ensures cause { IfErr result (λ e. IsTrue (is_cause e)) }
 {
     know_bytes(image);
     let Some(parts) = cut_parts(image) else {
         return Err(EditError::Frame);
     };
-    ZeroMap2d::parse_parts(parts.keys0, parts.joiner, parts.keys1, parts.values)
+    ZeroMap2d::<'a, StrULE, StrULE, SliceULE<u8>>::parse_parts(
+        parts.keys0,
+        parts.joiner,
+        parts.keys1,
+        parts.values,
+    )
 }

@@ -1,6 +1,7 @@
-// What images mean: worked images, and laws.
+// What images and changes mean: worked ones, and laws.
+ghost use Rattle.zv_map2d.specs.Changes.{FirstPair, KeysThere, LongValues, MissingPair, NewFirstRow, NewPair, OneOfTwo, OnlyPair, OtherValue};
 ghost use Rattle.zv_map2d.specs.ImageRows.{Alone, Counts, Empty, Ends, Finds, Lengths, Neighbours, NoFrame, OnePair, OtherSpellings, Prefixes, Texts, TwoRows};
-ghost use Rattle.zv_map2d.specs.Laws.{CanonStands, FrameExactly, IsReadExactly, OneImage, StandsForOne};
+ghost use Rattle.zv_map2d.specs.Laws.{CanonAgain, CanonStands, DelCodable, DelKeeps, EmptyStands, FitsAlike, FrameExactly, IsReadExactly, OneImage, PutCodable, PutKeeps, SameCanon, StandsForOne};
 ghost use Rattle.zv_map2d.specs.Locales.{Locales};
 
 /// Worked images. It does nothing.
@@ -28,4 +29,29 @@ pub fn laws()
     ensures canon { CanonStands }
     ensures image { OneImage }
     ensures frame { FrameExactly }
+{}
+
+/// Changes of a map, and the images of the maps that they leave. It does nothing.
+pub fn changes()
+    ensures empty { EmptyStands }
+    ensures put { PutKeeps }
+    ensures del { DelKeeps }
+    ensures put_codable { PutCodable }
+    ensures del_codable { DelCodable }
+    ensures fits { FitsAlike }
+    ensures again { CanonAgain }
+    ensures same { SameCanon }
+{}
+
+/// Worked changes. It does nothing.
+pub fn worked_changes()
+    ensures first_pair { FirstPair }
+    ensures new_first_row { NewFirstRow }
+    ensures new_pair { NewPair }
+    ensures other_value { OtherValue }
+    ensures one_of_two { OneOfTwo }
+    ensures only_pair { OnlyPair }
+    ensures missing_pair { MissingPair }
+    ensures long_values { LongValues }
+    ensures keys_there { KeysThere }
 {}

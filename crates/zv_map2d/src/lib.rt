@@ -2,20 +2,26 @@
 //!
 //! A map gives each pair of a first and a second key a value. Its first keys stand in one vector,
 //! the second keys of all rows in another, the values in a third; the joiner tells where each row ends.
+//! [`ZeroMap2d`] is a map whose kinds choose their containers, and [`Map2dOver`] is one over any containers.
 #![tactic(auto)]
 
 mod canon;
 mod check;
+pub mod cursor;
 pub mod error;
 pub mod image;
+mod insert;
+mod joiner;
 pub mod laws;
 mod lookup;
 pub mod map;
 mod order;
+mod parse;
 pub mod parts;
-mod read;
+mod remove;
 
-pub use error::EditError;
+pub use cursor::{Iter1, ZeroMap2dCursor};
+pub use error::{EditError, Map2dError};
 pub use image::{cut_parts, parse_image};
-pub use map::ZeroMap2d;
+pub use map::{Map2dOver, ZeroMap2d};
 pub use parts::Parts;

@@ -1,4 +1,4 @@
-//! Tests of the program over devices in memory, and of the elements below it at concrete types.
+//! Tests of the program over devices in memory, and of the crates below it at concrete types.
 #![tactic(auto)]
 
 #[cfg(test)]
@@ -6,6 +6,16 @@ mod boxes;
 #[cfg(test)]
 mod cases;
 #[cfg(test)]
+mod changes;
+#[cfg(test)]
+mod containers;
+#[cfg(test)]
 mod elements;
 #[cfg(test)]
+mod long_values;
+#[cfg(test)]
+mod maps;
+#[cfg(test)]
 mod tests;
+#[cfg(test)]
+mod vectors;

@@ -1,13 +1,17 @@
 // Runs of the program over devices in memory, and of the devices over std's readers and writers.
 ghost use Rattle.std.specs.Prelude.{◌<◌};
 
-use crate::cases::{CASES, Case, PAIR};
+use crate::cases::{CASES, Case, EMPTY, PAIR};
+use crate::changes::CHANGES;
 use std::alloc::Global;
 use std::io;
 use std::io::{Read, Write};
 use std::process::Abort;
 use std::test::Fail;
-use zv_tool::{Failed, MemSink, MemSource, Sink, Source, Status, StdSink, StdSource, Words, run};
+use zv_tool::{
+    CountSink, Failed, MemSink, MemSource, Sink, Source, Status, StdSink, StdSource, SteadySource,
+    Words, run,
+};
 
 // The most that a run here writes.
 const ROOM: usize = 2_000;
@@ -58,6 +62,16 @@ fn each_input_is_answered(rt: HostRuntime) -> Result<(), Fail> {
     Ok(())
 }
 
+#[test]
+fn each_change_is_answered(rt: HostRuntime) -> Result<(), Fail> {
+    for case in &CHANGES {
+        for piece in [1, 4096] {
+            try_case(&rt, rt.alloc(), case, piece)?;
+        }
+    }
+    Ok(())
+}
+
 // The look-up of the one pair, over devices that fail at the calls that are named, and what is written of it.
 fn try_failing(
     rt: &impl Abort,
@@ -73,6 +87,33 @@ fn try_failing(
     let mut sink = MemSink::new(alloc, ROOM, 3, writes)?;
     assert_eq!(rt; run(alloc, &words, &mut source, &mut sink), status);
     assert_eq!(rt; sink.taken(), written);
+    Ok(())
+}
+
+#[test]
+fn a_failing_sink_takes_a_front_of_a_reply(rt: HostRuntime) -> Result<(), Fail> {
+    let alloc = rt.alloc();
+    let words = words_of(alloc, &["edit"])?;
+    let input = joined(alloc, &["x", EMPTY, "\nput x61 x62 x01\n"])?;
+    let mut source = MemSource::new(alloc, &input, 10, &[])?;
+    let mut sink = MemSink::new(alloc, ROOM, 3, &[0])?;
+    assert_eq!(rt;
+        run(alloc, &words, &mut source, &mut sink),
+        Status::WriteFault
+    );
+    assert_eq!(rt; sink.taken(), b"new".as_slice());
+    Ok(())
+}
+
+#[test]
+fn devices_that_never_fail(rt: HostRuntime) -> Result<(), Fail> {
+    let alloc = rt.alloc();
+    let words = words_of(alloc, &["edit"])?;
+    let input = joined(alloc, &["x", EMPTY, "\nput x61 x62 x01\n"])?;
+    let mut source = SteadySource::new(&input);
+    let mut sink = CountSink::new();
+    assert_eq!(rt; run(alloc, &words, &mut source, &mut sink), Status::Done);
+    assert_eq!(rt; sink.count(), 102);
     Ok(())
 }
 

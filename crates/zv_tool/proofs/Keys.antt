@@ -28,13 +28,17 @@ words_some (b ∷ rest) = elim (b == 32) as (λ t. (first : List ℕ) × ((other
   ]
 ]
 
--- four words or more are no command
-pub four_words : (line r1 r2 r3 n a b : List ℕ) → words line ≡ n ∷ words r1 → words r1 ≡ a ∷ words r2 → words r2 ≡ b ∷ words r3
+-- five words or more are no command
+pub five_words : (line r1 r2 r3 r4 n a b c : List ℕ) → words line ≡ n ∷ words r1 → words r1 ≡ a ∷ words r2 → words r2 ≡ b ∷ words r3 → words r3 ≡ c ∷ words r4
     → command_of (words line) ≡ None
-four_words line r1 r2 r3 n a b e1 e2 e3 =
-    let more = words_some r3 in
-    rw (e1, e2, e3, more.1.1) refl
+five_words line r1 r2 r3 r4 n a b c e1 e2 e3 e4 =
+    let more = words_some r4 in
+    rw (e1, e2, e3, e4, more.1.1) refl
 
 -- digits of bytes that are UTF-8 stand for a text
 pub a_key : (digits bytes : List ℕ) → bytes_of_digits digits ≡ Some bytes → IsUtf8 bytes → text_of_digits digits ≡ Some bytes
 a_key digits bytes said utf8 = rw said (a_text bytes utf8)
+
+-- digits of other bytes stand for none
+pub no_key : (digits bytes : List ℕ) → bytes_of_digits digits ≡ Some bytes → (IsUtf8 bytes → ⊥) → text_of_digits digits ≡ None
+no_key digits bytes said other = rw said (no_text bytes other)

@@ -7,10 +7,10 @@ use Rattle.hex.specs.Hex.{decode_pairs, encode_with}
 use Rattle.zv_ule.specs.declared.error.TyName.TheVariants.{RawBytes4, VarZeroSlice}
 use Rattle.zv_ule.specs.declared.error.UleError.TheVariants.{InvalidLength, ParseError}
 use Rattle.zv_map2d.specs.declared.error.EditError.TheVariants.{Frame, Ule, Keys0Joiner, Keys1Values, JoinerOrder, JoinerEnd, KeyOrder}
-use Rattle.zv_tool.specs.declared.command.Command.TheVariants.{Get}
+use Rattle.zv_tool.specs.declared.command.Command.TheVariants.{Get, Put, Del, Row}
 use Rattle.zv_tool.specs.Commands.{total_size}
 use Rattle.zv_tool.specs.Input.{lines, words, field, key, spoken}
-use Rattle.zv_tool.specs.Output.{some, missing, text, image_line, bad_line, cause_line, usage_line}
+use Rattle.zv_tool.specs.Output.{some, missing, added, old, too_large, pairs, text, image_line, bad_line, cause_line, usage_line}
 use Rattle.zv_tool.specs.Program.{is_edit}
 
 -- LF
@@ -103,9 +103,39 @@ cr_at_the_end : spoken (codes "x00" ++ 13 ∷ lf) ≡ Err 1
 unfolding spoken decode_pairs
 cr_at_the_end = refl
 
-another_word : spoken (codes "x00" ++ lf ++ codes "put x61 x62" ++ lf) ≡ Err 2
+another_word : spoken (codes "x00" ++ lf ++ codes "set x61 x62" ++ lf) ≡ Err 2
 unfolding spoken decode_pairs
 another_word = refl
+
+-- the bytes of a value need not be UTF-8
+all_commands : spoken (codes "x00" ++ lf ++ codes "put x61 x xfF" ++ lf ++ codes "del x61 x62" ++ lf ++ codes "row x61" ++ lf)
+    ≡ Ok (0 ∷ [], Put (codes "a") [] (255 ∷ []) ∷ Del (codes "a") (codes "b") ∷ Row (codes "a") ∷ [])
+unfolding spoken decode_pairs is_utf8 chars lib.Utf8.encode
+all_commands = refl
+
+a_put_without_value : spoken (codes "x00" ++ lf ++ codes "put x61 x62" ++ lf) ≡ Err 2
+unfolding spoken decode_pairs
+a_put_without_value = refl
+
+a_put_of_half_a_byte : spoken (codes "x00" ++ lf ++ codes "put x61 x62 x0" ++ lf) ≡ Err 2
+unfolding spoken decode_pairs is_utf8 chars lib.Utf8.encode
+a_put_of_half_a_byte = refl
+
+a_put_of_two_values : spoken (codes "x00" ++ lf ++ codes "put x61 x62 x01 x02" ++ lf) ≡ Err 2
+unfolding spoken decode_pairs
+a_put_of_two_values = refl
+
+a_del_of_one_key : spoken (codes "x00" ++ lf ++ codes "del x61" ++ lf) ≡ Err 2
+unfolding spoken decode_pairs
+a_del_of_one_key = refl
+
+a_row_of_two_keys : spoken (codes "x00" ++ lf ++ codes "row x61 x62" ++ lf) ≡ Err 2
+unfolding spoken decode_pairs
+a_row_of_two_keys = refl
+
+a_row_of_no_text : spoken (codes "x00" ++ lf ++ codes "row xff" ++ lf) ≡ Err 2
+unfolding spoken decode_pairs is_utf8 chars lib.Utf8.encode
+a_row_of_no_text = refl
 
 a_key_that_is_no_utf8 : spoken (codes "x00" ++ lf ++ codes "get xff x62" ++ lf) ≡ Err 2
 unfolding spoken decode_pairs is_utf8 chars lib.Utf8.encode
@@ -119,6 +149,20 @@ some_text = refl
 
 none_text : text missing ≡ codes "none" ++ lf
 none_text = refl
+
+new_text : text added ≡ codes "new" ++ lf
+new_text = refl
+
+old_text : text (old []) ≡ codes "old x" ++ lf
+unfolding encode_with
+old_text = refl
+
+too_large_text : text too_large ≡ codes "toolarge" ++ lf
+too_large_text = refl
+
+row_text : text (pairs ((codes "b", 2 ∷ []) ∷ ([], []) ∷ [])) ≡ codes "row x62 x02 x x" ++ lf
+unfolding encode_with
+row_text = refl
 
 empty_image_text : image_line empty_image ≡ codes "image " ++ empty_image_line ++ lf
 unfolding empty_image_line encode_with
@@ -166,5 +210,5 @@ edit_and_more = refl
 no_words : is_edit [] ≡ false
 no_words = refl
 
-sizes : total_size (Get (codes "a") (codes "bc") ∷ Get [] [] ∷ []) ≡ 5
+sizes : total_size (Get (codes "a") (codes "bc") ∷ Get [] [] ∷ Put (codes "a") [] (1 ∷ 2 ∷ []) ∷ Del [] (codes "b") ∷ Row (codes "ab") ∷ []) ≡ 14
 sizes = refl

@@ -1,32 +1,70 @@
 -- What an image and commands are answered.
-use Rattle.std.specs.Prelude.{◌≡◌, ℕ, List, ◌++◌}
+use Rattle.std.specs.Prelude.{◌≡◌, ℕ, List, [], ◌∷◌, ◌++◌, if◌then◌else◌}
 use Rattle.std.specs.List.{flat_map}
 use Rattle.std.specs.declared.option.Option.{Option}
 use Rattle.std.specs.declared.option.Option.TheVariants.{Some, None}
 use Rattle.std.specs.Io.KnownBytes.{Appends}
+use Rattle.zv_map2d.specs.Fits.{fits_texts}
 use Rattle.zv_map2d.specs.Image.{by_bytes, canon, Stands}
-use Rattle.zv_map2d.specs.Rows.{Rows, find}
+use Rattle.zv_map2d.specs.Pairs.{look_up}
+use Rattle.zv_map2d.specs.Rows.{Rows, find, put, del}
 use Rattle.zv_tool.specs.Devices.{AppendsPrefix}
 use Rattle.zv_tool.specs.declared.command.Command.{Command}
-use Rattle.zv_tool.specs.declared.command.Command.TheVariants.{Get}
-use Rattle.zv_tool.specs.Output.{Reply, some, missing, text, image_line}
+use Rattle.zv_tool.specs.declared.command.Command.TheVariants.{Get, Put, Del, Row}
+use Rattle.zv_tool.specs.Output.{Reply, some, missing, added, old, too_large, pairs, text, image_line}
 
--- the reply to a look-up
+-- the reply to a look-up, by the value that was found
 abbrev pub found : Option (List ℕ) → Reply
 found (Some value) = some value
 found None = missing
 
+-- the reply to a value that was put, by the one that it replaced
+abbrev pub replaced : Option (List ℕ) → Reply
+replaced (Some value) = old value
+replaced None = added
+
+-- the reply to a removal, by the value that was removed
+abbrev pub removed : Option (List ℕ) → Reply
+removed (Some value) = old value
+removed None = missing
+
+-- the reply with a row, by the pairs of the row that was found
+abbrev pub listed : Option (List (List ℕ × List ℕ)) → Reply
+listed (Some ps) = pairs ps
+listed None = missing
+
 -- the reply of a command on a map
 abbrev pub reply : Rows → Command → Reply
 reply m (Get key0 key1) = found (find by_bytes by_bytes m key0 key1)
+reply m (Put key0 key1 value) =
+    if fits_texts m key0 key1 value then replaced (find by_bytes by_bytes m key0 key1) else too_large
+reply m (Del key0 key1) = removed (find by_bytes by_bytes m key0 key1)
+reply m (Row key0) = listed (look_up by_bytes m key0)
 
--- the lines of the replies, in the order of the commands
+-- the map that a command leaves: a value that does not fit changes nothing
+abbrev pub next : Rows → Command → Rows
+next m (Get key0 key1) = m
+next m (Put key0 key1 value) = if fits_texts m key0 key1 value then put by_bytes by_bytes m key0 key1 value else m
+next m (Del key0 key1) = del by_bytes by_bytes m key0 key1
+next m (Row key0) = m
+
+-- the map that commands leave, in order
+abbrev pub last : Rows → List Command → Rows
+last m [] = m
+last m (c ∷ cs) = last (next m c) cs
+
+-- the replies of commands, each on the map that those before it leave
+abbrev pub replies : Rows → List Command → List Reply
+replies m [] = []
+replies m (c ∷ cs) = reply m c ∷ replies (next m c) cs
+
+-- the lines of the replies
 abbrev pub reply_lines : Rows → List Command → List ℕ
-reply_lines m cs = flat_map (λ c. text (reply m c)) cs
+reply_lines m cs = flat_map text (replies m cs)
 
--- the lines of the replies, and that of the canonical image
+-- the lines of the replies, and that of the canonical image of the map that the commands leave
 abbrev pub answers : Rows → List Command → List ℕ
-answers m cs = reply_lines m cs ++ image_line (canon m)
+answers m cs = reply_lines m cs ++ image_line (canon (last m cs))
 
 -- a text that answers these commands on the map that the image stands for
 abbrev pub IsAnswer : List ℕ → List Command → List ℕ → Type 0
@@ -34,8 +72,8 @@ IsAnswer image cs text = (m : Rows) × Stands image m × (text ≡ answers m cs)
 
 -- Known bytes grew by such a text.
 abbrev pub Answered : List ℕ → List Command → Option (List ℕ) → Option (List ℕ) → Type 0
-Answered image cs old new = (text : List ℕ) × IsAnswer image cs text × Appends old new text
+Answered image cs before now = (text : List ℕ) × IsAnswer image cs text × Appends before now text
 
 -- Known bytes grew by a prefix of such a text.
 abbrev pub AnsweredInPart : List ℕ → List Command → Option (List ℕ) → Option (List ℕ) → Type 0
-AnsweredInPart image cs old new = (text : List ℕ) × IsAnswer image cs text × AppendsPrefix old new text
+AnsweredInPart image cs before now = (text : List ℕ) × IsAnswer image cs text × AppendsPrefix before now text

@@ -1,11 +1,14 @@
 -- How large commands are.
 use Rattle.std.specs.Prelude.{ℕ, ◌+◌, List, length, sum_by}
 use Rattle.zv_tool.specs.declared.command.Command.{Command}
-use Rattle.zv_tool.specs.declared.command.Command.TheVariants.{Get}
+use Rattle.zv_tool.specs.declared.command.Command.TheVariants.{Get, Put, Del, Row}
 
 -- 1 and the lengths of a command's fields
 abbrev pub command_size : Command → ℕ
-command_size (Get a b) = 1 + length a + length b
+command_size (Get key0 key1) = 1 + length key0 + length key1
+command_size (Put key0 key1 value) = 1 + length key0 + length key1 + length value
+command_size (Del key0 key1) = 1 + length key0 + length key1
+command_size (Row key0) = 1 + length key0
 
 -- the sizes of all commands together
 abbrev pub total_size : List Command → ℕ

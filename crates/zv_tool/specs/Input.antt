@@ -7,7 +7,7 @@ use Rattle.std.specs.declared.option.Option.TheVariants.{Some, None}
 use Rattle.std.specs.declared.result.Result.TheVariants.{Ok, Err}
 use Rattle.hex.specs.Hex.{decode_of}
 use Rattle.zv_tool.specs.declared.command.Command.{Command}
-use Rattle.zv_tool.specs.declared.command.Command.TheVariants.{Get}
+use Rattle.zv_tool.specs.declared.command.Command.TheVariants.{Get, Put, Del, Row}
 use Rattle.zv_tool.specs.declared.parse.InputError.{InputError}
 use Rattle.zv_tool.specs.declared.parse.InputError.TheVariants.{BadLine, Memory}
 
@@ -57,16 +57,42 @@ key word = do
   bytes ← field word
   text_of bytes
 
--- the look-up of a pair of keys
+-- the look-up of a pair of keys: what stands after `get`
 abbrev pub get : List ℕ → List ℕ → Option Command
 get a b = do
   key0 ← key a
   key1 ← key b
   Some (Get key0 key1)
 
--- the command that some words are: `get` and two keys
+-- a value, which is a field, for a pair of keys: what stands after `put`
+abbrev pub put : List ℕ → List ℕ → List ℕ → Option Command
+put a b c = do
+  key0 ← key a
+  key1 ← key b
+  value ← field c
+  Some (Put key0 key1 value)
+
+-- the removal of a pair of keys: what stands after `del`
+abbrev pub del : List ℕ → List ℕ → Option Command
+del a b = do
+  key0 ← key a
+  key1 ← key b
+  Some (Del key0 key1)
+
+-- all pairs of a first key: what stands after `row`
+abbrev pub row : List ℕ → Option Command
+row a = do
+  key0 ← key a
+  Some (Row key0)
+
+-- the command that some words are: `get K K`, `put K K F`, `del K K` or `row K`, with keys K and a field F
 abbrev pub command_of : List (List ℕ) → Option Command
-command_of (name ∷ a ∷ b ∷ []) = if bytes_eq name (codes "get") then get a b else None
+command_of (name ∷ a ∷ []) = if bytes_eq name (codes "row") then row a else None
+command_of (name ∷ a ∷ b ∷ []) =
+    if bytes_eq name (codes "get") then get a b
+    else if bytes_eq name (codes "del") then del a b
+    else None
+command_of (name ∷ a ∷ b ∷ c ∷ []) = if bytes_eq name (codes "put") then put a b c else None
 command_of others = None
 
 -- a command and those that follow it, or the number of the first bad line

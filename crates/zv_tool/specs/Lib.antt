@@ -3,6 +3,7 @@ pub mod Commands
 pub mod Compact
 pub mod Devices
 pub mod Input
+pub mod Laws
 pub mod Memory
 pub mod Output
 pub mod Program

@@ -1,15 +1,21 @@
 -- What is written.
 use Rattle.std.specs.Prelude.{ℕ, List, [], ◌∷◌, ◌++◌, codes}
 use Rattle.std.specs.Fmt.{decimal}
+use Rattle.std.specs.List.{flat_map}
 use Rattle.hex.specs.Hex.{encode_lower}
 use Rattle.zv_ule.specs.declared.error.UleError.TheVariants.{InvalidLength, ParseError}
 use Rattle.zv_map2d.specs.declared.error.EditError.{EditError}
 use Rattle.zv_map2d.specs.declared.error.EditError.TheVariants.{Frame, Ule, Keys0Joiner, Keys1Values, JoinerOrder, JoinerEnd, KeyOrder, Memory, Write}
 
--- what a command answers: a value, or that there is none
+-- what a command answers: a value that was found, that there is none, that a pair is new, a value that is no longer there,
+-- that a value does not fit, or the pairs of a row
 pub data Reply : Type 0 where
   some : List ℕ → Reply
   missing : Reply
+  added : Reply
+  old : List ℕ → Reply
+  too_large : Reply
+  pairs : List (List ℕ × List ℕ) → Reply
 
 -- bytes as a field: `x` and their hex digits in lower case
 abbrev pub hex_field : List ℕ → List ℕ
@@ -19,10 +25,18 @@ hex_field bytes = codes "x" ++ encode_lower bytes
 abbrev pub line : List ℕ → List ℕ
 line text = text ++ 10 ∷ []
 
+-- a pair in its row's line: each field after a space
+abbrev pub pair_text : List ℕ × List ℕ → List ℕ
+pair_text pair = codes " " ++ hex_field pair.0 ++ codes " " ++ hex_field pair.1
+
 -- a reply's line
 abbrev pub text : Reply → List ℕ
 text (some value) = line (codes "some " ++ hex_field value)
 text missing = line (codes "none")
+text added = line (codes "new")
+text (old value) = line (codes "old " ++ hex_field value)
+text too_large = line (codes "toolarge")
+text (pairs ps) = line (codes "row" ++ flat_map pair_text ps)
 
 -- the line that names the first bad line
 abbrev pub bad_line : ℕ → List ℕ

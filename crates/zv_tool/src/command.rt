@@ -3,7 +3,6 @@ ghost use Rattle.std.specs.Prelude.{◌≡◌, ◌-◌, ◌^◌, min};
 ghost use Rattle.zv_tool.specs.Commands.{command_size};
 
 use crate::compact::{CompactBytes, IN_PLACE};
-use hex::FromHexError;
 use std::alloc::Global;
 use std::marker::Model;
 use zv_ule::NoMemory;
@@ -37,8 +36,8 @@ impl KeyText {
     }
 
     /// The text that hex digits stand for, or `None` where they stand for no bytes or for bytes that aren't UTF-8
-    /// (RFC 3629).
-    #[tactic(auto, using(crate::proofs::Keys::a_text, crate::proofs::Keys::no_text))]
+    /// (RFC 3629). A short text takes no memory.
+    #[tactic(auto, using(crate::proofs::Keys::a_key, crate::proofs::Keys::no_key))]
     pub(crate) fn from_hex(alloc: Global, digits: &[u8]) -> Result<Option<KeyText>, NoMemory>
         ensures { IfOk result (λ k. k ≡ text_of_digits digits.now) }
     {
@@ -58,20 +57,17 @@ impl KeyText {
         Ok(Some(KeyText { bytes }))
     }
 
-    // The same for a key that takes memory.
-    #[tactic(auto, using(crate::proofs::Keys::a_text, crate::proofs::Keys::no_text))]
+    // The same for a key that takes memory. (A short key is checked before it is moved, which is faster.)
+    #[tactic(auto, using(crate::proofs::Keys::a_key, crate::proofs::Keys::no_key))]
     fn from_long_hex(alloc: Global, digits: &[u8]) -> Result<Option<KeyText>, NoMemory>
         ensures { IfOk result (λ k. k ≡ text_of_digits digits.now) }
     {
-        let bytes = match hex::decode(alloc, digits) {
-            Ok(bytes) => bytes,
-            Err(FromHexError::OutOfMemory) => return Err(NoMemory),
-            Err(_) => return Ok(None),
+        let Some(bytes) = CompactBytes::from_hex(alloc, digits)? else {
+            return Ok(None);
         };
-        if std::str::from_utf8(&bytes).is_err() {
+        if std::str::from_utf8(bytes.as_slice()).is_err() {
             return Ok(None);
         }
-        let bytes = CompactBytes::boxed(alloc, bytes)?;
         Ok(Some(KeyText { bytes }))
     }
 
@@ -105,7 +101,8 @@ impl Model for ValueBytes {
 }
 
 impl ValueBytes {
-    ghost use Rattle.std.specs.Prelude.{◌≡◌, IfOk};
+    ghost use Rattle.std.specs.Prelude.{◌≡◌, IfOk, length};
+    ghost use Rattle.zv_tool.specs.Input.{bytes_of_digits};
 
     /// A copy of bytes.
     pub fn new(alloc: Global, bytes: &[u8]) -> Result<ValueBytes, NoMemory>
@@ -115,11 +112,28 @@ impl ValueBytes {
         Ok(ValueBytes { bytes })
     }
 
+    /// The bytes that hex digits stand for, or `None` where they stand for none. Few bytes take no memory.
+    pub(crate) fn from_hex(alloc: Global, digits: &[u8]) -> Result<Option<ValueBytes>, NoMemory>
+        ensures { IfOk result (λ v. v ≡ bytes_of_digits digits.now) }
+    {
+        match CompactBytes::from_hex(alloc, digits)? {
+            Some(bytes) => Ok(Some(ValueBytes { bytes })),
+            None => Ok(None),
+        }
+    }
+
     /// The bytes.
     pub fn as_bytes(&self) -> &[u8]
         ensures { result.now ≡ self.now }
     {
         self.bytes.as_slice()
+    }
+
+    // How many bytes there are.
+    pub(crate) fn len(&self) -> usize
+        ensures { result ≡ length self.now }
+    {
+        self.bytes.as_slice().len()
     }
 }
 
@@ -133,12 +147,45 @@ pub enum Command {
         /// The second key.
         key1: KeyText,
     },
+    /// A value for a pair of keys, new or in place of the one that the pair has.
+    Put {
+        /// The first key.
+        key0: KeyText,
+        /// The second key.
+        key1: KeyText,
+        /// The value.
+        value: ValueBytes,
+    },
+    /// The removal of a pair of keys.
+    Del {
+        /// The first key.
+        key0: KeyText,
+        /// The second key.
+        key1: KeyText,
+    },
+    /// All pairs of a first key.
+    Row {
+        /// The first key.
+        key0: KeyText,
+    },
 }
+
+// Three fields of 16 bytes, and which command it is.
+const _: () = prove!(size_of::<Command>() == 56);
 
 /// 1 and the lengths of a command's fields, which stops at the last value of a `usize`.
 pub(crate) fn command_size(command: &Command) -> usize
     ensures { result ≡ min (command_size command.now) (2 ^ 64 - 1) }
 {
-    let Command::Get { key0, key1 } = command;
-    key0.len().saturating_add(key1.len()).saturating_add(1)
+    let fields = match command {
+        Command::Get { key0, key1 } | Command::Del { key0, key1 } => {
+            key0.len().saturating_add(key1.len())
+        }
+        Command::Put { key0, key1, value } => key0
+            .len()
+            .saturating_add(key1.len())
+            .saturating_add(value.len()),
+        Command::Row { key0 } => key0.len(),
+    };
+    fields.saturating_add(1)
 }

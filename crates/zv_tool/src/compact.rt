@@ -1,6 +1,8 @@
 // Bytes that are mostly few.
 ghost use Rattle.std.specs.Prelude.{◌≡◌, ◌≤◌, IfOk, take};
+ghost use Rattle.zv_tool.specs.Input.{bytes_of_digits};
 
+use hex::FromHexError;
 use std::alloc::Global;
 use std::marker::Model;
 use zv_ule::NoMemory;
@@ -45,6 +47,32 @@ impl CompactBytes {
         let mut place = [0u8; IN_PLACE];
         place[..bytes.len()].copy_from_slice(bytes);
         Ok(CompactBytes::in_place(place, bytes.len()))
+    }
+
+    /// The bytes that hex digits stand for, or `None` where they stand for none. Up to 12 bytes take no memory.
+    pub(crate) fn from_hex(alloc: Global, digits: &[u8]) -> Result<Option<Self>, NoMemory>
+        ensures { IfOk result (λ b. b ≡ bytes_of_digits digits.now) }
+    {
+        let len = digits.len() / 2;
+        if len > IN_PLACE {
+            return CompactBytes::from_long_hex(alloc, digits);
+        }
+        let mut place = [0u8; IN_PLACE];
+        match hex::decode_to_slice(digits, &mut place[..len]) {
+            Ok(()) => Ok(Some(CompactBytes::in_place(place, len))),
+            Err(_) => Ok(None),
+        }
+    }
+
+    // The same for bytes that take memory.
+    fn from_long_hex(alloc: Global, digits: &[u8]) -> Result<Option<Self>, NoMemory>
+        ensures { IfOk result (λ b. b ≡ bytes_of_digits digits.now) }
+    {
+        match hex::decode(alloc, digits) {
+            Ok(bytes) => Ok(Some(CompactBytes::boxed(alloc, bytes)?)),
+            Err(FromHexError::OutOfMemory) => Err(NoMemory),
+            Err(_) => Ok(None),
+        }
     }
 
     /// The first bytes of an array.

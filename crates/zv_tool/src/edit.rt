@@ -11,10 +11,11 @@ use crate::replies::answer_text;
 use std::alloc::Global;
 use zv_map2d::{EditError, parse_image};
 
-/// Answers commands over an image: the replies in order, and the line of the canonical image.
+/// Runs commands on the map of an image, in order: a reply for each, and the line of the canonical image of the map that
+/// they leave.
 ///
-/// The image is read in place. The whole text is collected and then written in one piece, so want of memory comes
-/// before the first byte. A refused image takes no memory and writes nothing.
+/// The image is read in place, and only what a command changes is copied. The whole text is collected and then written in
+/// one piece, so want of memory comes before the first byte. A refused image takes no memory and writes nothing.
 pub fn edit2d<K: Sink>(
     alloc: Global,
     image: &[u8],
@@ -32,11 +33,11 @@ pub fn edit2d<K: Sink>(
     ensures untouched { IfErr result (λ e. (e ≡ EditError.Write → ⊥) → sink.new ≡ sink.old) }
     ensures in_part { IsErrOf result EditError.Write → AnsweredInPart image.now commands.now (K.taken sink.old) (K.taken sink.new) }
 {
-    let map = match parse_image(image) {
+    let mut map = match parse_image(image) {
         Ok(map) => map,
         Err(cause) => return Err(cause),
     };
-    let Ok(text) = answer_text(alloc, &map, commands) else {
+    let Ok(text) = answer_text(alloc, &mut map, commands) else {
         return Err(EditError::Memory);
     };
     match sink.write(&text) {

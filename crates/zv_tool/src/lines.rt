@@ -2,7 +2,7 @@
 ghost use Rattle.std.specs.Prelude.{◌≡◌, ◌+◌, ◌<◌, ◌≤◌, [], ◌∷◌, length, IfOk, MatchOption, Some, None};
 ghost use Rattle.zv_tool.specs.Input.{lines, words, field, key};
 
-use crate::command::KeyText;
+use crate::command::{KeyText, ValueBytes};
 use hex::FromHexError;
 use memchr::memchr;
 use std::alloc::Global;
@@ -53,4 +53,14 @@ pub(crate) fn read_key(alloc: Global, word: &[u8]) -> Result<Option<KeyText>, No
         return Ok(None);
     };
     KeyText::from_hex(alloc, digits)
+}
+
+/// The bytes of a field that are a value, or `None` where the word is no field. Few bytes take no memory.
+pub(crate) fn read_value(alloc: Global, word: &[u8]) -> Result<Option<ValueBytes>, NoMemory>
+    ensures { IfOk result (λ v. v ≡ field word.now) }
+{
+    let [b'x', digits @ ..] = word else {
+        return Ok(None);
+    };
+    ValueBytes::from_hex(alloc, digits)
 }

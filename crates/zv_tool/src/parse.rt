@@ -1,12 +1,12 @@
 // Reads what an input says.
 ghost use Rattle.std.specs.Prelude.{◌≡◌, ◌+◌, ◌≤◌, [], ◌∷◌, ◌++◌, length, IfOk, IfErr, OnOk, Ok};
 ghost use Rattle.zv_tool.specs.Commands.{total_size, command_size};
-ghost use Rattle.zv_tool.specs.Input.{lines, words, get, command_of, commands, spoken, Tells};
+ghost use Rattle.zv_tool.specs.Input.{lines, words, get, put, del, row, command_of, commands, spoken, Tells};
 
 use crate::command::Command;
 use crate::commands::{Commands, CommandsError, MAX_COMMANDS};
 use crate::input::MAX_INPUT;
-use crate::lines::{cut_line, cut_word, read_field, read_key};
+use crate::lines::{cut_line, cut_word, read_field, read_key, read_value};
 use std::alloc::Global;
 use zv_ule::NoMemory;
 
@@ -51,12 +51,81 @@ fn read_get(alloc: Global, a: &[u8], b: &[u8]) -> Result<Option<Command>, NoMemo
     }
 }
 
+// The third word for the pair of the others, or `None` where one of those is no key, or it is no field.
+fn read_put(alloc: Global, a: &[u8], b: &[u8], c: &[u8]) -> Result<Option<Command>, NoMemory>
+    ensures { IfOk result (λ command. command ≡ put a.now b.now c.now) }
+{
+    let Some(key0) = read_key(alloc, a)? else {
+        return Ok(None);
+    };
+    let Some(key1) = read_key(alloc, b)? else {
+        return Ok(None);
+    };
+    match read_value(alloc, c)? {
+        Some(value) => Ok(Some(Command::Put { key0, key1, value })),
+        None => Ok(None),
+    }
+}
+
+// The removal of two words, or `None` where one is no key.
+fn read_del(alloc: Global, a: &[u8], b: &[u8]) -> Result<Option<Command>, NoMemory>
+    ensures { IfOk result (λ c. c ≡ del a.now b.now) }
+{
+    let Some(key0) = read_key(alloc, a)? else {
+        return Ok(None);
+    };
+    match read_key(alloc, b)? {
+        Some(key1) => Ok(Some(Command::Del { key0, key1 })),
+        None => Ok(None),
+    }
+}
+
+// The pairs of a word, or `None` where it is no key.
+fn read_row(alloc: Global, a: &[u8]) -> Result<Option<Command>, NoMemory>
+    ensures { IfOk result (λ c. c ≡ row a.now) }
+{
+    match read_key(alloc, a)? {
+        Some(key0) => Ok(Some(Command::Row { key0 })),
+        None => Ok(None),
+    }
+}
+
+// The command of two words, or `None` where they are none.
+fn read_two(alloc: Global, name: &[u8], a: &[u8]) -> Result<Option<Command>, NoMemory>
+    ensures { IfOk result (λ c. c ≡ command_of (name.now ∷ a.now ∷ [])) }
+{
+    if name == b"row".as_slice() {
+        read_row(alloc, a)
+    } else {
+        Ok(None)
+    }
+}
+
 // The command of three words, or `None` where they are none.
 fn read_three(alloc: Global, name: &[u8], a: &[u8], b: &[u8]) -> Result<Option<Command>, NoMemory>
     ensures { IfOk result (λ c. c ≡ command_of (name.now ∷ a.now ∷ b.now ∷ [])) }
 {
     if name == b"get".as_slice() {
         read_get(alloc, a, b)
+    } else if name == b"del".as_slice() {
+        read_del(alloc, a, b)
+    } else {
+        Ok(None)
+    }
+}
+
+// The command of four words, or `None` where they are none.
+fn read_four(
+    alloc: Global,
+    name: &[u8],
+    a: &[u8],
+    b: &[u8],
+    c: &[u8],
+) -> Result<Option<Command>, NoMemory>
+    ensures { IfOk result (λ command. command ≡ command_of (name.now ∷ a.now ∷ b.now ∷ c.now ∷ [])) }
+{
+    if name == b"put".as_slice() {
+        read_put(alloc, a, b, c)
     } else {
         Ok(None)
     }
@@ -72,12 +141,16 @@ fn read_command(alloc: Global, line: &[u8]) -> Result<Option<Command>, NoMemory>
     };
     let (a, rest) = cut_word(rest);
     let Some(rest) = rest else {
-        return Ok(None);
+        return read_two(alloc, name, a);
     };
     let (b, rest) = cut_word(rest);
+    let Some(rest) = rest else {
+        return read_three(alloc, name, a, b);
+    };
+    let (c, rest) = cut_word(rest);
     match rest {
         Some(_more) => Ok(None),
-        None => read_three(alloc, name, a, b),
+        None => read_four(alloc, name, a, b, c),
     }
 }
 

@@ -105,10 +105,19 @@ fn is_form(words: &Words) -> bool
 
 /// All that the program does: reads the source to its end, answers to the sink, and says how it ended.
 ///
-/// The one command form is `edit`. Line 1 of the input is `x` and an image in hex; each further line is `get F F`,
-/// where a field F is `x` and a UTF-8 key in hex. Lines end in LF, which may be missing after the last. All lines are
-/// checked before the image. The answer is `some xV` or `none` for each line, and `image xI`, the canonical image. A
-/// refusal is one line, `error line N`, or `error` and the word of the image's first fault.
+/// The one command form is `edit`. Line 1 of the input is `x` and an image in hex; each further line is a command, which
+/// runs on the map that those before it left:
+///
+/// - `get K K` looks up a pair of keys, and is answered `some xV`, or `none`;
+/// - `put K K F` gives a pair a value, and is answered `new`, `old xV` with the value that the pair had, or `toolarge`,
+///   which changes nothing;
+/// - `del K K` removes a pair, and is answered `old xV`, or `none`;
+/// - `row K` lists the pairs of a first key in order, and is answered `row` and ` xK xV` for each, or `none`.
+///
+/// A field F is `x` and an even number of hex digits in either case; a key K is a field that is UTF-8. One space stands
+/// between words. Lines end in LF, which may be missing after the last. All lines are checked before the image. The
+/// answer ends with `image xI`, the canonical image of the map that is left; its hex is in lower case. A refusal is one
+/// line, `error line N`, or `error` and the word of the image's first fault.
 pub fn run<S: Source, K: Sink>(alloc: Global, words: &Words, source: &mut S, sink: &mut K) -> Status
     // Where a text is due, it is the one that the words and the whole input want.
     ensures written { IsTrue (is_written result) → Written (WantedText words.now (S.left source.old)) (K.taken sink.old) (K.taken sink.new) }

@@ -1,9 +1,0 @@
-use Rattle.std.proofs.Common.{◌∙◌, ap}
-use Rattle.zv_map2d.specs.Views.{Map2d}
-use Rattle.zv_map2d.proofs.Seen.{seen, pairs_count}
-use Rattle.zv_map2d.proofs.map.ZeroMap2d.len.Goals as goal
-
-pub returns : goal.returns
-returns g c =
-    let s = seen (record { fault0 = g.K0.ZvKind.fault; fault1 = g.K1.ZvKind.fault; fault2 = g.V.ZvKind.fault; order0 = g.K0.ZvOrd.cmp; order1 = g.K1.ZvOrd.cmp }) (record { keys0 = c.self.inside.keys0.bytes.now; joiner = c.self.inside.joiner.bytes.now; keys1 = c.self.inside.keys1.bytes.now; values = c.self.inside.values.bytes.now }) c.args.self.now.rows g.met.K0.ZvOrd.total g.met.K1.ZvOrd.total c.self.invariant (ap (λ (v : Map2d). v.rows) c.self.view_is) in
-    c.len.ensures ∙ pairs_count s

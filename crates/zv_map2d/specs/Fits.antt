@@ -1,0 +1,56 @@
+-- Which new values a map takes, by the size rules of its lists.
+use Rattle.std.specs.Prelude.{ℕ, ◌+◌, Bool, ◌&&◌, List, length, Option, Some, None}
+use Rattle.std.specs.declared.cmp.Ordering.{Ordering}
+use Rattle.zv_owned.specs.Size.{takes_insert, takes_replace}
+use Rattle.zv_map2d.specs.Keys.{Bytes, nth}
+use Rattle.zv_map2d.specs.Pairs.{look_up, rank}
+use Rattle.zv_map2d.specs.Rows.{Rows, firsts, seconds, values, row, find, before}
+use Rattle.zv_map2d.specs.Image.{by_bytes}
+
+-- the size rules of a map's lists: whether an element of so many bytes may join the first keys, the second keys, the values,
+-- and whether one may stand in place of the value at a place
+pub record Rule : Type 0 where
+  pub takes0 : List Bytes → ℕ → Bool
+  pub takes1 : List Bytes → ℕ → Bool
+  pub takes2 : List Bytes → ℕ → Bool
+  pub replaces : List Bytes → ℕ → ℕ → Bool
+
+-- where the value of the pair of keys stands, or would stand, among the values
+abbrev pub place : (Bytes → Bytes → Ordering) → (Bytes → Bytes → Ordering) → Rows → Bytes → Bytes → ℕ
+place order0 order1 m k0 k1 = before m (rank order0 m k0) + rank order1 (row order0 m k0) k1
+
+-- the test of what was found, or else what holds where nothing was
+abbrev pub if_found : {X : Type 0} → Option X → (X → Bool) → Bool → Bool
+if_found (Some x) test missing = test x
+if_found None test missing = missing
+
+-- a new pair fits in a row: k1 among the second keys, and v among the values
+abbrev pub pair_fits : Rule → Rows → Bytes → Bytes → Bool
+pair_fits rule m k1 v = rule.takes1 (seconds m) (length k1) && rule.takes2 (values m) (length v)
+
+-- v fits: in place of the old value, or with a new pair in the row that is there, or with a new row; a key that is there is not measured
+abbrev pub fits : Rule → (Bytes → Bytes → Ordering) → (Bytes → Bytes → Ordering) → Rows → Bytes → Bytes → Bytes → Bool
+fits rule order0 order1 m k0 k1 v =
+    if_found (find order0 order1 m k0 k1) (λ old. rule.replaces (values m) (place order0 order1 m k0 k1) (length v))
+    (if_found (look_up order0 m k0) (λ r. pair_fits rule m k1 v)
+    (rule.takes0 (firsts m) (length k0) && pair_fits rule m k1 v))
+
+-- the size rules of a map from two texts to bytes, whose lists have fields of two bytes
+abbrev pub texts_rule : Rule
+texts_rule = record {
+  takes0 = takes_insert 2;
+  takes1 = takes_insert 2;
+  takes2 = takes_insert 2;
+  replaces = λ xs i n. takes_replace 2 xs (length (nth xs i)) n;
+}
+
+-- a new pair fits in a row of a map from two texts to bytes
+abbrev pub texts_pair_fits : Rows → Bytes → Bytes → Bool
+texts_pair_fits m k1 v = takes_insert 2 (seconds m) (length k1) && takes_insert 2 (values m) (length v)
+
+-- v fits in a map from two texts to bytes
+abbrev pub fits_texts : Rows → Bytes → Bytes → Bytes → Bool
+fits_texts m k0 k1 v =
+    if_found (find by_bytes by_bytes m k0 k1) (λ old. takes_replace 2 (values m) (length old) (length v))
+    (if_found (look_up by_bytes m k0) (λ r. texts_pair_fits m k1 v)
+    (takes_insert 2 (firsts m) (length k0) && texts_pair_fits m k1 v))

@@ -1,0 +1,173 @@
+// One row of a map.
+ghost use Rattle.std.specs.Prelude.{◌≡◌, ℕ, ◌^◌, ◌<◌, ◌≤◌, List, length, Option, IfSome, Some, option_map};
+ghost use Rattle.std.specs.declared.cmp.Ordering.TheVariants.{Equal};
+ghost use Rattle.std.specs.Iterator.{YieldsFirstBy, UpTo, item_count};
+ghost use Rattle.std.specs.Iterator.SizeHint.{IsWithinCount};
+ghost use Rattle.zv_ule.specs.Views.{element_of};
+ghost use Rattle.zv_map.specs.Views.{list_of};
+ghost use Rattle.zv_map2d.specs.Pairs.{look_up};
+
+use crate::map::Map2dOver;
+use std::marker::Model;
+use zv_map::{KvSlice, ZvContainer};
+use zv_ule::argument::ZvOrdArg;
+use zv_ule::kind::{ZvKind, ZvOrd};
+use zv_ule::view::VarRef;
+
+/// One row of a map: a first key, and its pairs of a second key and a value in order. It is a place
+/// in the map, and takes no memory.
+#[derive(Drop)]
+pub struct ZeroMap2dCursor<
+    'l,
+    'a,
+    K0: ZvOrd,
+    K1: ZvOrd,
+    V: ZvKind,
+    C0: ZvContainer<K0>,
+    C1: ZvContainer<K1>,
+    D: ZvContainer<V>,
+> {
+    map: &'l Map2dOver<'a, K0, K1, V, C0, C1, D>,
+    row: usize,
+}
+
+impl<
+    'l,
+    'a,
+    K0: ZvOrd,
+    K1: ZvOrd,
+    V: ZvKind,
+    C0: ZvContainer<K0>,
+    C1: ZvContainer<K1>,
+    D: ZvContainer<V>,
+> Model for ZeroMap2dCursor<'l, 'a, K0, K1, V, C0, C1, D> {
+    ghost use Rattle.std.specs.Prelude.{◌<◌, length};
+    ghost use Rattle.zv_map2d.specs.Keys.{nth};
+    ghost use Rattle.zv_map2d.specs.Rows.{firsts, row_at};
+    ghost use Rattle.zv_map2d.specs.Views.{Row};
+
+    ghost Value = { Row };
+
+    ghost view = { λ c. record { key = nth (firsts c.map.now.rows) c.row; pairs = row_at c.map.now.rows c.row } };
+
+    ghost invariant = { λ c. c.row < length c.map.now.rows };
+}
+
+impl<
+    'a,
+    K0: ZvOrd,
+    K1: ZvOrd,
+    V: ZvKind,
+    C0: ZvContainer<K0>,
+    C1: ZvContainer<K1>,
+    D: ZvContainer<V>,
+> Map2dOver<'a, K0, K1, V, C0, C1, D> {
+    /// The row of a first key, if there is one. It is one search.
+    pub fn get0<'l, Q0: ZvOrdArg<K0>>(
+        &'l self,
+        key0: &Q0,
+    ) -> Option<ZeroMap2dCursor<'l, 'a, K0, K1, V, C0, C1, D>>
+        requires { length (Q0.bytes key0.now) < 2 ^ 64 }
+        ensures pairs { option_map (λ c. c.pairs) result ≡ look_up K0.cmp self.now.rows (Q0.bytes key0.now) }
+        ensures key { IfSome result (λ c. K0.cmp c.key (Q0.bytes key0.now) ≡ Equal) }
+    {
+        match self.row_place(key0) {
+            Ok(row) => Some(ZeroMap2dCursor { map: self, row }),
+            Err(_) => None,
+        }
+    }
+}
+
+impl<
+    'l,
+    'a,
+    K0: ZvOrd,
+    K1: ZvOrd,
+    V: ZvKind,
+    C0: ZvContainer<K0>,
+    C1: ZvContainer<K1>,
+    D: ZvContainer<V>,
+> ZeroMap2dCursor<'l, 'a, K0, K1, V, C0, C1, D> {
+    ghost use Rattle.zv_map2d.specs.Iters.{left_of};
+
+    /// The row's first key.
+    pub fn key0(&self) -> VarRef<'l, K0>
+        ensures { element_of result ≡ self.now.key }
+    {
+        let map = self.map;
+        map.first_key(self.row)
+    }
+
+    /// The row's pairs, in order.
+    pub fn iter1(&self) -> Iter1<'l, K1, V>
+        ensures { left_of result ≡ self.now.pairs }
+    {
+        let map = self.map;
+        let row = self.row;
+        let start = map.row_start(row);
+        let end = map.row_end(row);
+        Iter1 {
+            keys: map.keys1.zvl_as_borrowed(),
+            values: map.values.zvl_as_borrowed(),
+            next: start,
+            end,
+        }
+    }
+
+    /// The value of the row's pair with a second key, if there is one. It is one search.
+    pub fn get1<Q1: ZvOrdArg<K1>>(&self, key1: &Q1) -> Option<VarRef<'l, V>>
+        requires { length (Q1.bytes key1.now) < 2 ^ 64 }
+        ensures { option_map element_of result ≡ look_up K1.cmp self.now.pairs (Q1.bytes key1.now) }
+    {
+        let map = self.map;
+        let row = self.row;
+        let Ok(pair) = map.pair_place(row, key1) else {
+            return None;
+        };
+        map.value_at(row, pair)
+    }
+}
+
+/// The pairs of a row, in order: each a second key and its value.
+#[derive(Drop)]
+pub struct Iter1<'l, K1: ZvKind, V: ZvKind> {
+    keys: KvSlice<'l, K1>,
+    values: KvSlice<'l, V>,
+    next: usize,
+    end: usize,
+    pub ghost order: { next ≤ end },
+    pub ghost keys_within: { end ≤ length (list_of keys) },
+    pub ghost values_within: { end ≤ length (list_of values) },
+}
+
+impl<'l, K1: ZvKind, V: ZvKind> Iterator for Iter1<'l, K1, V> {
+    ghost use Rattle.zv_map2d.specs.Iters.{left_of, pair_of};
+
+    type Item = (VarRef<'l, K1>, VarRef<'l, V>);
+
+    ghost next_gives = { YieldsFirstBy pair_of left_of };
+
+    ghost remaining = { item_count left_of };
+
+    #[inline]
+    fn next(&mut self) -> Option<(VarRef<'l, K1>, VarRef<'l, V>)> {
+        if self.next == self.end {
+            return None;
+        }
+        let (Some(key), Some(value)) = (self.keys.get(self.next), self.values.get(self.next)) else {
+            unreachable!();
+        };
+        self.next += 1;
+        Some((key, value))
+    }
+
+    #[inline]
+    fn size_hint(&self) -> (usize, Option<usize>)
+        ensures lower { IsWithinCount result.0 (item_count left_of self.now) }
+        ensures upper { IfSome result.1 (UpTo (item_count left_of self.now)) }
+        ensures exact { result ≡ (length (left_of self.now), Some (length (left_of self.now))) }
+    {
+        let len = self.end - self.next;
+        (len, Some(len))
+    }
+}

@@ -1,0 +1,160 @@
+// Worked inputs that change a map.
+use crate::cases::{Case, EMPTY, LOCALES, PAIR};
+use zv_tool::Status;
+
+// The image of "a" with "z" and "b" with "a", whose values are 01 and 02.
+const TWO_ROWS: &str =
+    "0600000000000000020001006162080000000000000001000000020000000600000000000000020001007a610600000000000000020001000102";
+
+// The locales without zh Bopo and with en Latn, in 487 bytes.
+const CHANGED_LOCALES: &str = "\
+    5b00000000000000150003000500070009000b000e0010001200140017001a001c001e0021002300250027002a002c00\
+    2f00617263617a6375656e66666772636b6b6b756b796c69666d616e6d6e706170616c736474677567756e72757a7975\
+    657a685400000000000000020000000300000004000000060000000700000008000000090000000b0000000d0000000e\
+    0000000f00000010000000110000001200000015000000160000001700000018000000190000001a0000001c000000a8\
+    000000000000001c00040008000c001000140018001c002000240028002c003000340038003c004000440048004c0050\
+    00540058005c006000640068006c004e62617450616c6d41726162476c61674c61746e5368617741646c6d4c696e6241\
+    7261624172616259657a69417261624c61746e4c696d624e6b6f6f4d6f6e674172616250686c70446576614b686f6a53\
+    696e64417261624379726c446576614172616248616e7348616e6248616e7470000000000000001c0002000400060008\
+    000a000c000e00100012001400160018001a001c001e00200022002400260028002a002c002e0030003200340036004a\
+    4f53594952424755534742474e4752434e49514745434e5452494e474e434e504b434e494e494e494e504b4b5a4e5041\
+    46434e54575457";
+
+pub const CHANGES: [Case; 16] = [
+    Case {
+        name: "a put into the empty map",
+        words: &["edit"],
+        input: &["x", EMPTY, "\nput x61 x62 x01\n"],
+        output: &["new\nimage x", PAIR, "\n"],
+        status: Status::Done,
+    },
+    Case {
+        name: "a put in the place of a value",
+        words: &["edit"],
+        input: &["x", PAIR, "\nput x61 x62 x0202\n"],
+        output: &[
+            "old x01\nimage x03000000000000000100610400000000000000010000000300000000000000010062040000000000000001000202\n",
+        ],
+        status: Status::Done,
+    },
+    Case {
+        name: "a pair that is deleted twice",
+        words: &["edit"],
+        input: &["x", PAIR, "\ndel x61 x62\ndel x61 x62\n"],
+        output: &["old x01\nnone\nimage x", EMPTY, "\n"],
+        status: Status::Done,
+    },
+    Case {
+        name: "a row of two rows",
+        words: &["edit"],
+        input: &["x", TWO_ROWS, "\nrow x62\n"],
+        output: &["row x61 x02\nimage x", TWO_ROWS, "\n"],
+        status: Status::Done,
+    },
+    Case {
+        name: "a row that is missing",
+        words: &["edit"],
+        input: &["x", PAIR, "\nrow x62\n"],
+        output: &["none\nimage x", PAIR, "\n"],
+        status: Status::Done,
+    },
+    Case {
+        name: "a row and a key that is no UTF-8",
+        words: &["edit"],
+        input: &["x", PAIR, "\nrow x61\nget xff x62\n"],
+        output: &["error line 3\n"],
+        status: Status::BadLine,
+    },
+    Case {
+        name: "empty keys and an empty value",
+        words: &["edit"],
+        input: &["x", EMPTY, "\nput x x x\n"],
+        output: &[
+            "new\nimage x020000000000000001000400000000000000010000000200000000000000010002000000000000000100\n",
+        ],
+        status: Status::Done,
+    },
+    Case {
+        name: "rows and pairs before, between and after others",
+        words: &["edit"],
+        input: &[
+            "x030000000000000001006204000000000000000100000003000000000000000100620300000000000000010001\n",
+            "put x61 x78 x02\nput x63 x79 x03\nput x62 x61 x04\nput x62 x63 x05\nrow x62\n",
+            "del x62 x62\ndel x61 x78\nrow x61\nrow x62\nget x63 x79\n",
+        ],
+        output: &[
+            "new\nnew\nnew\nnew\nrow x61 x04 x62 x01 x63 x05\nold x01\nold x02\nnone\nrow x61 x04 x63 x05\nsome x03\n",
+            "image x06000000000000000200010062630800000000000000020000000300000009000000000000000300010002006163790900000000000000030001000200040503\n",
+        ],
+        status: Status::Done,
+    },
+    Case {
+        name: "changes among 28 locales",
+        words: &["edit"],
+        input: &[
+            "x",
+            LOCALES,
+            "\nget x7364 x4b686f6a\nrow x6b75\ndel x7a68 x426f706f\nput x656e x4c61746e x5553\n",
+        ],
+        output: &[
+            "some x494e\nrow x41726162 x4951 x59657a69 x4745\nold x5457\nnew\nimage x",
+            CHANGED_LOCALES,
+            "\n",
+        ],
+        status: Status::Done,
+    },
+    Case {
+        name: "a value in upper case",
+        words: &["edit"],
+        input: &["x", EMPTY, "\nput x61 x62 xAbCd\nget x61 x62\n"],
+        output: &[
+            "new\nsome xabcd\nimage x03000000000000000100610400000000000000010000000300000000000000010062040000000000000001",
+            "00abcd\n",
+        ],
+        status: Status::Done,
+    },
+    Case {
+        name: "an empty list that is spelt as a count of 0, and a put",
+        words: &["edit"],
+        input: &[
+            "x040000000000000000000000000000000000000000000000000000000000000000000000\nput x61 x62 x01\n",
+        ],
+        output: &["new\nimage x", PAIR, "\n"],
+        status: Status::Done,
+    },
+    Case {
+        name: "a put with two fields",
+        words: &["edit"],
+        input: &["x", EMPTY, "\nput x61 x62\n"],
+        output: &["error line 2\n"],
+        status: Status::BadLine,
+    },
+    Case {
+        name: "a put with four fields",
+        words: &["edit"],
+        input: &["x", EMPTY, "\nput x61 x62 x63 x64\n"],
+        output: &["error line 2\n"],
+        status: Status::BadLine,
+    },
+    Case {
+        name: "a deletion with one key",
+        words: &["edit"],
+        input: &["x", EMPTY, "\ndel x61\n"],
+        output: &["error line 2\n"],
+        status: Status::BadLine,
+    },
+    Case {
+        name: "a row with two keys",
+        words: &["edit"],
+        input: &["x", EMPTY, "\nrow x61 x62\n"],
+        output: &["error line 2\n"],
+        status: Status::BadLine,
+    },
+    Case {
+        name: "a value that is no hex",
+        words: &["edit"],
+        input: &["x", EMPTY, "\nput x61 x62 x6\n"],
+        output: &["error line 2\n"],
+        status: Status::BadLine,
+    },
+];

@@ -1,0 +1,8 @@
+use Rattle.zv_tool.proofs.Left.{spoken_texts, left_stands}
+use Rattle.zv_tool.proofs.laws.laws.Goals as goal
+
+pub returns : goal.returns
+returns c = record {
+  spoken = spoken_texts;
+  left = left_stands;
+}
