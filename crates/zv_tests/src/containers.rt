@@ -108,8 +108,10 @@ fn an_emptied_list_borrows_no_bytes(rt: HostRuntime) {
     assert!(rt; list.zvl_as_borrowed_inner().is_some());
     list.zvl_clear();
     assert!(rt; !list.zvl_is_owned());
+    assert!(rt; list.zvl_takes_insert(65_533));
     assert!(rt; list.zvl_takes_insert(65_534));
     assert!(rt; !list.zvl_takes_insert(65_535));
+    assert!(rt; !list.zvl_takes_insert(65_536));
     let bytes = [1, 2];
     let mut data = <Of<'_, SliceULE<u8>> as MutableZeroVecLike<'_, SliceULE<u8>>>::zvl_new();
     assert_eq!(rt; data.zvl_push(alloc, &bytes.as_slice()), Ok(()));

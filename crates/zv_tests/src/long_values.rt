@@ -52,6 +52,10 @@ fn try_long(
 
 const EMPTY_LINE: &str = "x0000000000000000000000000000000000000000000000000000000000000000\n";
 
+// The answer to a put that is refused, where there is no pair.
+const REFUSED: &str =
+    "toolarge\nimage x0000000000000000000000000000000000000000000000000000000000000000\n";
+
 // The image of a value of "a" and "b", up to the length of the values.
 const ONE_ROW: &str = "03000000000000000100610400000000000000010000000300000000000000010062";
 
@@ -161,8 +165,8 @@ fn the_size_rule_is_kept(rt: HostRuntime) -> Result<(), Fail> {
     let first = [
         (65_533, "new\n"),
         (65_534, "new\n"),
-        (65_535, "toolarge\n"),
-        (65_536, "toolarge\n"),
+        (65_535, REFUSED),
+        (65_536, REFUSED),
     ];
     for (len, answer) in first {
         try_put(&rt, alloc, EMPTY_LINE, "put x61 x62 x", len, answer)?;

@@ -9,8 +9,8 @@ use std::io::{Read, Write};
 use std::process::Abort;
 use std::test::Fail;
 use zv_tool::{
-    CountSink, Failed, MemSink, MemSource, Sink, Source, Status, StdSink, StdSource, SteadySource,
-    Words, run,
+    Command, Commands, CountSink, EditError, Failed, KeyText, MemSink, MemSource, Sink, Source,
+    Status, StdSink, StdSource, SteadySource, ValueBytes, Words, edit2d, run,
 };
 
 // The most that a run here writes.
@@ -102,6 +102,29 @@ fn a_failing_sink_takes_a_front_of_a_reply(rt: HostRuntime) -> Result<(), Fail> 
         Status::WriteFault
     );
     assert_eq!(rt; sink.taken(), b"new".as_slice());
+    Ok(())
+}
+
+#[test]
+fn an_edit_by_its_calls(rt: HostRuntime) -> Result<(), Fail> {
+    let alloc = rt.alloc();
+    let key0 = KeyText::new(alloc, "a")?;
+    let key1 = KeyText::new(alloc, "b")?;
+    let value = ValueBytes::new(alloc, &[1])?;
+    let mut commands = Commands::new(alloc);
+    commands
+        .push(Command::Put { key0, key1, value })
+        .expect(&rt, "room");
+    let mut sink = MemSink::new(alloc, ROOM, 0, &[])?;
+    assert_eq!(rt; edit2d(alloc, &[0; 32], &commands, &mut sink), Ok(()));
+    let answer = joined(alloc, &["new\nimage x", PAIR, "\n"])?;
+    assert_eq!(rt; sink.taken(), answer.as_slice());
+    let mut failing = MemSink::new(alloc, ROOM, 3, &[0])?;
+    assert_eq!(rt;
+        edit2d(alloc, &[0; 32], &commands, &mut failing),
+        Err(EditError::Write)
+    );
+    assert_eq!(rt; failing.taken(), b"new".as_slice());
     Ok(())
 }
 
