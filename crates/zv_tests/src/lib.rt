@@ -12,6 +12,8 @@ mod containers;
 #[cfg(test)]
 mod elements;
 #[cfg(test)]
+mod impls;
+#[cfg(test)]
 mod long_values;
 #[cfg(test)]
 mod maps;

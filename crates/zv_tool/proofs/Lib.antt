@@ -1,6 +1,7 @@
 mod Rows
 mod WorkedAnswers
 pub mod Cutting
+pub mod Edits
 pub mod HexText
 pub mod Left
 pub mod Keys

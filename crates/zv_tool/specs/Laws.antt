@@ -1,13 +1,16 @@
 -- The laws of commands, each the contract of a function.
-use Rattle.std.specs.Prelude.{◌≡◌, ℕ, List, None, IfOk}
+use Rattle.std.specs.Prelude.{◌≡◌, ℕ, ◌^◌, ◌<◌, ◌↔◌, List, [], length, None, IfOk}
 use Rattle.std.specs.List.{AllByRecursion}
+use Rattle.zv_ule.specs.Bytes.{IsBytes}
 use Rattle.zv_ule.specs.Kinds.{text_fault}
-use Rattle.zv_map2d.specs.Image.{Stands, canon}
+use Rattle.zv_map2d.specs.Image.{IsTextMap, Stands, canon}
+use Rattle.zv_map2d.specs.Laws.{IsCodable}
 use Rattle.zv_map2d.specs.Rows.{Rows}
 use Rattle.zv_tool.specs.declared.command.Command.{Command}
 use Rattle.zv_tool.specs.declared.command.Command.TheVariants.{Get, Put, Del, Row}
-use Rattle.zv_tool.specs.Answers.{last}
+use Rattle.zv_tool.specs.Answers.{answers, last}
 use Rattle.zv_tool.specs.Input.{spoken}
+use Rattle.zv_tool.specs.Output.{image_line}
 
 -- the keys of a command are texts
 abbrev pub OfTexts : Command → Type 0
@@ -23,3 +26,11 @@ SpokenTexts = (input : List ℕ) → IfOk (spoken input) (λ said. AllByRecursio
 -- where an image stands for a map, the canonical image of what commands leave of that map stands for what they leave
 abbrev pub LeftStands : Type 0
 LeftStands = (image : List ℕ) (m : Rows) (cs : List Command) → Stands image m → AllByRecursion OfTexts cs → Stands (canon (last m cs)) (last m cs)
+
+-- two images stand for one map exactly where an edit with no commands writes the same for both
+abbrev pub SameEdits : Type 0
+SameEdits = (image other : List ℕ) (m n : Rows) → IsBytes image → IsBytes other → length image < 2 ^ 64 → length other < 2 ^ 64 → Stands image m → Stands other n → (m ≡ n) ↔ (answers m [] ≡ answers n [])
+
+-- a canonical image is written back as it is by an edit with no commands
+abbrev pub WrittenBack : Type 0
+WrittenBack = (m n : Rows) → IsTextMap m → IsCodable m → length (canon m) < 2 ^ 64 → Stands (canon m) n → answers n [] ≡ image_line (canon m)

@@ -6,6 +6,7 @@ ghost use Rattle.zv_ule.specs.Orders.{EqualOnlyIfSame};
 use crate::element::AsULE;
 use crate::kind::{ZvKind, ZvOrd};
 use crate::laws::exact_order;
+use crate::niche::{NicheBytes, NichedOption};
 
 /// Tuples of two that compare Equal are the same bytes, where parts that compare Equal are the same.
 pub fn exact_order_of_two<A: AsULE + Ord, B: AsULE + Ord>()
@@ -82,6 +83,15 @@ pub fn exact_order_of_options<U: AsULE + Ord>()
 {
     exact_order::<Option<U>>();
 }
+
+/// Options with no tag that compare Equal are the same bytes, where values that compare Equal are the
+/// same.
+pub fn exact_order_of_niched_options<U: AsULE + Ord, const N: usize>()
+where
+    U::ULE: NicheBytes<N>,
+    requires { EqualOnlyIfSame U.is_value U.cmp }
+    ensures { EqualIsSame ⟦<NichedOption<U, N> as ZvKind>⟧.fault ⟦<NichedOption<U, N> as ZvOrd>⟧.cmp }
+{}
 
 /// Arrays that compare Equal are the same bytes.
 pub fn exact_orders_of_arrays<const N: usize>()
