@@ -71,6 +71,7 @@ fn value_at<T: AsULE>(list: &ZeroVec<'_, T>, index: usize) -> T
 
 impl<'a, T: AsULE> ZvContainer<T> for ZeroVec<'a, T> {
     ghost use Rattle.std.proofs.Common.{arith};
+    ghost use Rattle.zv_owned.proofs.Pushes.{always_taken};
 
     type OwnedType = T;
 
@@ -99,6 +100,8 @@ impl<'a, T: AsULE> ZvContainer<T> for ZeroVec<'a, T> {
     ghost ready_owned = { λ v h. h };
 
     ghost owned_ready = { λ v h _. h };
+
+    ghost any_order = { λ xs ys _ _. always_taken [] ys };
 
     #[inline]
     fn zvl_is_owned(&self) -> bool {

@@ -89,6 +89,7 @@ fn boxed_at<T: ZvKind>(
 
 impl<'a, T: ZvKind> ZvContainer<T> for VarZeroVec<'a, T, Index16> {
     ghost use Rattle.std.proofs.Common.{arith};
+    ghost use Rattle.zv_owned.proofs.Pushes.{any_order};
 
     type OwnedType = VarBox<T>;
 
@@ -117,6 +118,8 @@ impl<'a, T: ZvKind> ZvContainer<T> for VarZeroVec<'a, T, Index16> {
     ghost ready_owned = { λ v h. h };
 
     ghost owned_ready = { λ v h _. h };
+
+    ghost any_order = { any_order 2 (Prim.omega arith) (Prim.omega arith) };
 
     #[inline]
     fn zvl_is_owned(&self) -> bool {

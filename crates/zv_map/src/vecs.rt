@@ -1,10 +1,11 @@
 // What the containers of maps are.
-ghost use Rattle.std.specs.Prelude.{◌≡◌, ℕ, ◌==◌, ◌||◌, ◌+◌, ◌^◌, ◌<◌, ◌≤◌, List, [], ◌∷◌, ◌++◌, length, Option, is_some, IfSome, Bool, true, false, not, IsTrue, IfOk, OnOk, OnErr, set};
+ghost use Rattle.std.specs.Prelude.{◌≡◌, ℕ, ◌==◌, ◌||◌, ◌+◌, ◌^◌, ◌<◌, ◌≤◌, List, [], ◌∷◌, ◌++◌, length, Option, is_some, IfSome, Bool, true, false, not, IsTrue, IfOk, OnOk, OnErr, set, IsPermutation};
 ghost use Rattle.std.specs.List.{insert, remove, slice_get};
 ghost use Rattle.std.specs.Option.{option_map};
 ghost use Rattle.std.specs.Result.{result_err};
 ghost use Rattle.zv_ule.specs.Views.{element_of};
 ghost use Rattle.zv_ule.specs.declared.error.UleError.{UleError};
+ghost use Rattle.zv_owned.specs.Size.{takes_pushes};
 ghost use Rattle.zv_map.specs.Forms.{list_in, spells_in};
 ghost use Rattle.zv_map.specs.Keys.{nth};
 ghost use Rattle.zv_map.specs.Refusals.{TooLargeUnless};
@@ -136,6 +137,10 @@ pub trait ZvContainer<T: ZvKind>: ZeroVecLike<T> {
 
     /// A container that owns its bytes and has room for a field is ready.
     ghost owned_ready: { (x : Self) → owned x ≡ true → field ≤ spare x → ready x ≡ true };
+
+    /// Where the empty list takes elements one after another, it takes them in any other order.
+    ghost any_order: { (xs ys : List (List ℕ)) → IsPermutation xs ys →
+        takes_pushes takes_insert [] xs ≡ true → takes_pushes takes_insert [] ys ≡ true };
 }
 
 /// A container whose list can be changed. Bytes that are borrowed are never written: the first

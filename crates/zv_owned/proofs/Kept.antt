@@ -14,7 +14,7 @@ pub concat-append : (xs ys : List (List ℕ)) → concat (xs ++ ys) ≡ concat x
 concat-append [] ys = refl
 concat-append (x ∷ xs) ys = ap (λ (l : List ℕ). x ++ l) (concat-append xs ys) ∙ sym (append_assoc x (concat xs) (concat ys))
 
-concat_parts : (xs : List (List ℕ)) (i : ℕ) → concat xs ≡ concat (take i xs) ++ concat (drop i xs)
+pub concat_parts : (xs : List (List ℕ)) (i : ℕ) → concat xs ≡ concat (take i xs) ++ concat (drop i xs)
 concat_parts xs i = ap (λ (l : List (List ℕ)). concat l) (sym (take-append-drop i xs)) ∙ concat-append (take i xs) (drop i xs)
 
 -- the data before a place, and from there on
@@ -76,44 +76,51 @@ holds w b (x ∷ xs) p =
           ap (λ (l : List ℕ). take (w * i - w) l) t ∙ (ap (λ (j : ℕ). take j (flat_map (le w) ss)) m ∙ take_fields w (i - 1) ss);
     }
 
--- As the code reads them: v is the width, n the count, ps the list.
-module _ (w v n : ℕ) (b c : List ℕ) (xs ps : List (List ℕ)) (h : Holds w b xs) (eb : c ≡ b) (ew : v ≡ w) (ep : ps ≡ xs) (en : n ≡ length ps) where
+-- A list's bytes as the code has them: v is the width, n the count, c the bytes, ps the list.
+pub record IsRead (w v n : ℕ) (b c : List ℕ) (xs ps : List (List ℕ)) : Type 0 where
+  pub stands : Part w b xs
+  pub bytes : c ≡ b
+  pub width : v ≡ w
+  pub list : ps ≡ xs
+  pub count : n ≡ length ps
+
+module _ {w v n : ℕ} {b c : List ℕ} {xs ps : List (List ℕ)} (r : IsRead w v n b c xs ps) where
+  held : Holds w b xs
+  held = holds w b xs r.stands
+
   count_is : n ≡ length xs
-  count_is = en ∙ ap length ep
+  count_is = r.count ∙ ap length r.list
 
   product_is : v * n ≡ w * length xs
-  product_is = ap (λ (k : ℕ). k * n) ew ∙ ap (λ (k : ℕ). w * k) count_is
+  product_is = ap (λ (k : ℕ). k * n) r.width ∙ ap (λ (k : ℕ). w * k) count_is
+
+  pub offset_is : (j q : ℕ) → q ≡ offset_of ps j → q ≡ offset_of xs j
+  offset_is j q e = e ∙ ap (λ (l : List (List ℕ)). offset_of l j) r.list
 
   pub fields_inside : v * n ≤ length c
-  fields_inside = omega (arith, h.room, product_is, ap length eb)
+  fields_inside = omega (arith, held.room, product_is, ap length r.bytes)
 
   pub fields_taken : (i : ℕ) (f : List ℕ) → f ≡ take (v * n) c → 0 < i → i ≤ length xs → take (v * i - v) (drop v f) ≡ flat_map (le w) (take (i - 1) (starts xs))
   fields_taken i f e z k =
-      let p : v * i - v ≡ w * i - w = ap (λ (j : ℕ). j * i - j) ew in
-      let q : drop v f ≡ drop w (take (w * length xs) b) = ap (λ (j : ℕ). drop j f) ew ∙ (ap (λ (l : List ℕ). drop w l) e ∙ (ap (λ (j : ℕ). drop w (take j c)) product_is ∙ ap (λ (l : List ℕ). drop w (take (w * length xs) l)) eb)) in
-      ap (λ (j : ℕ). take j (drop v f)) p ∙ (ap (λ (l : List ℕ). take (w * i - w) l) q ∙ h.front i z k)
+      let p : v * i - v ≡ w * i - w = ap (λ (j : ℕ). j * i - j) r.width in
+      let q : drop v f ≡ drop w (take (w * length xs) b) = ap (λ (j : ℕ). drop j f) r.width ∙ (ap (λ (l : List ℕ). drop w l) e ∙ (ap (λ (j : ℕ). drop w (take j c)) product_is ∙ ap (λ (l : List ℕ). drop w (take (w * length xs) l)) r.bytes)) in
+      ap (λ (j : ℕ). take j (drop v f)) p ∙ (ap (λ (l : List ℕ). take (w * i - w) l) q ∙ held.front i z k)
 
   module _ (o : ℕ) (rest : List ℕ) (er : rest ≡ drop (v * n) c) (eo : o ≡ offset_of ps n) where
     rest_is : rest ≡ drop (w * length xs) b
-    rest_is = er ∙ (ap (λ (j : ℕ). drop j c) product_is ∙ ap (λ (l : List ℕ). drop (w * length xs) l) eb)
+    rest_is = er ∙ (ap (λ (j : ℕ). drop j c) product_is ∙ ap (λ (l : List ℕ). drop (w * length xs) l) r.bytes)
 
     total_is : o ≡ length (concat xs)
-    total_is = eo ∙ (ap (λ (l : List (List ℕ)). offset_of l n) ep ∙ offset_all xs n count_is)
+    total_is = offset_is n o eo ∙ offset_all xs n count_is
 
     pub things_inside : o ≤ length rest
-    things_inside = omega (arith, total_is, h.room, ap length rest_is, length-drop (w * length xs) b)
+    things_inside = omega (arith, total_is, held.room, ap length rest_is, length-drop (w * length xs) b)
 
     pub things_are : (t : List ℕ) → t ≡ take o rest → t ≡ concat xs
-    things_are t e = e ∙ (ap (λ (j : ℕ). take j rest) total_is ∙ (ap (λ (l : List ℕ). take (length (concat xs)) l) rest_is ∙ h.things))
+    things_are t e = e ∙ (ap (λ (j : ℕ). take j rest) total_is ∙ (ap (λ (l : List ℕ). take (length (concat xs)) l) rest_is ∙ held.things))
 
-    pub place_inside : (t : List ℕ) (j q : ℕ) → t ≡ take o rest → q ≡ offset_of ps j → q ≤ length t
-    place_inside t j q e eq = omega (arith, ap length (things_are t e), eq ∙ ap (λ (l : List (List ℕ)). offset_of l j) ep, offset_within xs j)
-
-    pub before_is : (t a : List ℕ) (j q : ℕ) → t ≡ take o rest → q ≡ offset_of ps j → a ≡ take q t → a ≡ concat (take j xs)
-    before_is t a j q e eq ea = ea ∙ data_before xs j q t (things_are t e) (eq ∙ ap (λ (l : List (List ℕ)). offset_of l j) ep)
-
-    pub after_is : (t a : List ℕ) (j q : ℕ) → t ≡ take o rest → q ≡ offset_of ps j → a ≡ drop q t → a ≡ concat (drop j xs)
-    after_is t a j q e eq ea = ea ∙ data_after xs j q t (things_are t e) (eq ∙ ap (λ (l : List (List ℕ)). offset_of l j) ep)
+pub place_inside : (xs : List (List ℕ)) (j q : ℕ) (t : List ℕ) → t ≡ concat xs → q ≡ offset_of xs j → q ≤ length t
+place_inside xs j q t e f = omega (arith, ap length e, f, offset_within xs j)
 
 pub none_taken : (w i : ℕ) (ss : List ℕ) → i ≡ 0 → [] ≡ flat_map (le w) (take (i - 1) ss)
 none_taken w i ss e = let k : i - 1 ≡ 0 = omega arith in rw k refl

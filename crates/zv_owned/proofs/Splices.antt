@@ -138,6 +138,10 @@ pub record Made (w : ℕ) (K : List ℕ → Option UleError) (bytes : List ℕ) 
   pub sound : list_fault w K bytes ≡ None
   pub reads : elements w bytes ≡ ys
 
+-- the bytes are the encoding of the list that they are read as
+pub encoded : {w : ℕ} {K : List ℕ → Option UleError} {bytes : List ℕ} {ys : List (List ℕ)} → Made w K bytes ys → (l : List (List ℕ)) → l ≡ elements w bytes → bytes ≡ enc w l
+encoded {w} m l e = m.is ∙ ap (λ (k : List (List ℕ)). enc w k) (sym (e ∙ m.reads))
+
 module _ (w : ℕ) (some : 0 < w) (K : List ℕ → Option UleError) (bytes : List ℕ) where
   made : (ys : List (List ℕ)) → bytes ≡ enc w ys → codable w ys ≡ true → AreValid K ys → Made w K bytes ys
   made ys e c v = record {

@@ -1,5 +1,5 @@
 -- The size rule: which changes a list in a format takes. w is the width of a field in bytes.
-use Rattle.std.specs.Prelude.{ℕ, ◌+◌, ◌-◌, ◌^◌, Bool, ◌&&◌, ◌||◌, nat_lt, nat_le, List, [], ◌∷◌, length}
+use Rattle.std.specs.Prelude.{ℕ, ◌+◌, ◌-◌, ◌^◌, Bool, true, ◌&&◌, ◌||◌, nat_lt, nat_le, List, [], ◌∷◌, ◌++◌, length}
 use Rattle.zv_var.specs.Format.{enc}
 
 -- the most that a field holds
@@ -18,3 +18,8 @@ takes_insert w (x ∷ xs) n = nat_lt n (max_of w) && nat_le (size w (x ∷ xs) +
 -- an element of n bytes may stand in place of one of old bytes: n is below what a field holds, and the list doesn't grow or stays within that
 abbrev pub takes_replace : ℕ → List (List ℕ) → ℕ → ℕ → Bool
 takes_replace w xs old n = nat_lt n (max_of w) && (nat_le n old || nat_le (size w xs + n) (max_of w + old))
+
+-- by a rule for one element, the elements es may join the list one after another, each at its end
+abbrev pub takes_pushes : (List (List ℕ) → ℕ → Bool) → List (List ℕ) → List (List ℕ) → Bool
+takes_pushes takes xs [] = true
+takes_pushes takes xs (e ∷ es) = takes xs (length e) && takes_pushes takes (xs ++ (e ∷ [])) es

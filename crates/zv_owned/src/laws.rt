@@ -1,7 +1,7 @@
 // What the size rule means: worked examples, and laws. Each call does nothing, and its contract is
 // what it is for.
 ghost use Rattle.zv_owned.specs.Examples.{EmptyRefusesMost, EmptyTakesBelowMost, FullTakesNone, FullTakesSameSize, LongerSecondIsRefused, OnlyGivesWay, OnlyStays, SecondIsTaken, ShortRefusesMost, ShortTakesBelowMost};
-ghost use Rattle.zv_owned.specs.Laws.{InsertKeeps, RemoveKeeps, ReplaceKeeps, ShorterIsTaken};
+ghost use Rattle.zv_owned.specs.Laws.{AnyOrder, InsertKeeps, RemoveKeeps, ReplaceKeeps, ShorterIsTaken};
 
 /// Elements at the edge of what a list takes.
 pub fn sizes_by_hand()
@@ -18,10 +18,12 @@ pub fn sizes_by_hand()
 {}
 
 /// A list that can be written still can after each change that the size rule takes, and after any
-/// removal. A shorter element is always taken in place of a longer one.
+/// removal. A shorter element is always taken in place of a longer one. Whether elements are taken
+/// one after another does not depend on their order.
 pub fn size_rule()
     ensures insert { InsertKeeps }
     ensures replace { ReplaceKeeps }
     ensures remove { RemoveKeeps }
     ensures shorter { ShorterIsTaken }
+    ensures any_order { AnyOrder }
 {}

@@ -1,4 +1,5 @@
 use Rattle.zv_owned.proofs.Codable.{insert_codable, remove_codable, replace_codable, shorter_taken}
+use Rattle.zv_owned.proofs.Pushes.{any_order}
 use Rattle.zv_owned.proofs.laws.size_rule.Goals as goal
 
 pub returns : goal.returns
@@ -7,4 +8,5 @@ returns c = record {
   replace = λ w p q xs i e k h t. replace_codable w p q xs i e h k t;
   remove = λ w p q xs i k. remove_codable w p q xs i k;
   shorter = shorter_taken;
+  any_order = any_order;
 }
