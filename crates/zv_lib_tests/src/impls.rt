@@ -8,10 +8,11 @@ use zv_map::{KvSlice, MutableZeroVecLike, ZeroMapKV, ZeroVecLike, ZeroVecSearch,
 use zv_owned::VarZeroVecOwned;
 use zv_ule::element::store;
 use zv_ule::{
-    AsULE, CharULE, EncodeAsVarULE, Index32, NichedOption, NoMemory, RawBytesULE, SliceAsULE,
-    SliceULE, StrULE, TyName, ULE, UleError, VarBox, VarRef, VarULE, ZvOrd, ZvOrdArg,
-    encode_varule_to_box,
+    AsULE, CharULE, EncodeAsVarULE, Index16, Index32, NichedOption, NoMemory, RawBytesULE,
+    SliceAsULE, SliceULE, StrULE, TyName, ULE, UleError, VarBox, VarRef, VarULE, ZvKind, ZvOrd,
+    ZvOrdArg, encode_varule_to_box,
 };
+use zv_var::VarZeroSliceULE;
 
 // Whether the value is stored as these bytes, which its kind takes and reads as the value.
 fn is_stored_as<T: AsULE + PartialEq>(value: T, bytes: &[u8]) -> bool
@@ -390,6 +391,25 @@ fn arguments_for_texts_are_written(rt: HostRuntime) -> Result<(), Fail> {
         b"\x04\0\x01\0\x02\0\x03\0abcd".as_slice()
     );
     Ok(())
+}
+
+#[test]
+fn a_list_is_an_element(rt: HostRuntime) {
+    let Ok(element) = VarRef::<VarZeroSliceULE<StrULE, Index16>>::new(b"\x02\0\x01\0ab") else {
+        panic!(rt; "the bytes spell a and b");
+    };
+    let list = VarZeroSliceULE::as_varzeroslice(element);
+    assert_eq!(rt; list.len(), 2);
+    assert_eq!(rt; list.get(1).map(|text| text.as_str()), Some("b"));
+    let error = UleError::parse(TyName::VarZeroSlice);
+    assert_eq!(rt;
+        VarZeroSliceULE::<StrULE, Index16>::check(b"\x02\0\x03\0ab"),
+        Err(error)
+    );
+    assert_eq!(rt;
+        VarZeroSliceULE::<StrULE, Index16>::check(b"\x01\0\xff"),
+        Err(error)
+    );
 }
 
 // Whether the bytes are refused with this error, as one element and as a list.

@@ -1,0 +1,120 @@
+#!/usr/bin/env python3
+"""Runs the built program `zv` and a model of it (model.py) on random inputs, and stops where they differ.
+
+    bench/compare.py [SECONDS] [SEED]
+
+Build the program first (`./zv edit < examples/locales.txt`). Half of the images are those of a map, and the
+others are changed at random; half of the inputs have values and keys at the edges of the size rule. An input
+that is answered otherwise is written to `differs.txt` in the working folder.
+"""
+import collections
+import os
+import random
+import subprocess
+import sys
+import time
+
+import model
+
+TOP = os.path.dirname(os.path.dirname(os.path.abspath(__file__)))
+PROGRAM = os.path.join(TOP, "crates", "zv", "out", "zv")
+SHORT_KEYS = [b"", b"a", b"b", b"ab", b"abc", "é".encode(), "😀".encode(), b"A", b"a\0", b"k" * 12, b"k" * 13]
+LONG_KEYS = [b"q" * length for length in (32_760, 32_766, 65_520, 65_528, 65_533, 65_534, 65_535)]
+
+
+class Inputs:
+    """Inputs for the program, from a seed."""
+
+    def __init__(self, seed):
+        self.random = random.Random(seed)
+        self.at_edges = False
+
+    def chance(self, likely):
+        return self.random.random() < likely
+
+    def key(self):
+        return self.random.choice(LONG_KEYS if self.at_edges and self.chance(0.15) else SHORT_KEYS)
+
+    def value(self):
+        if self.at_edges:
+            low, high = self.random.choice([(0, 4), (32_750, 32_770), (65_510, 65_537)])
+            return bytes(self.random.randrange(low, high))
+        return self.random.randbytes(self.random.choice([0, 1, 2, 8, 12, 13, self.random.randrange(300)]))
+
+    def field(self, field):
+        digits = field.hex()
+        return b"x" + (digits.upper() if self.chance(0.2) else digits).encode()
+
+    def changed(self, data):
+        """The data with a few bytes cut off, appended or overwritten."""
+        kind = self.random.randrange(3)
+        if kind == 0:
+            return data[: self.random.randrange(len(data) + 1)]
+        if kind == 1:
+            return data + self.random.randbytes(self.random.randrange(1, 5))
+        data = bytearray(data)
+        for _ in range(self.random.randrange(1, 3) if data else 0):
+            data[self.random.randrange(len(data))] = self.random.choice([0, 1, 2, 3, 128, 255])
+        return bytes(data)
+
+    def image(self):
+        rows = {}
+        for _ in range(self.random.choice([0, 1, 1, 2, 3, 5, 9])):
+            for _ in range(self.random.randrange(1, 4)):
+                value = self.value() if self.chance(0.2) else self.random.randbytes(self.random.randrange(6))
+                rows.setdefault(self.key(), {})[self.key()] = value
+        keys0, ends, keys1, values = model.lists(rows)
+        kind = self.random.choice(["map"] * 5 + ["image", "part", "joiner", "order", "text"])
+        if kind == "joiner":
+            ends = [max(0, end + self.random.choice([0, 0, 1, -1])) for end in ends]
+        if kind == "order":
+            self.random.shuffle(self.random.choice([keys0, keys1]))
+        if kind == "text" and keys1:
+            keys1[self.random.randrange(len(keys1))] = self.random.choice([b"\xff", b"\xc3", b"\xed\xa0\x80"])
+        parts = model.parts(keys0, ends, keys1, values)
+        if kind == "part":
+            at = self.random.randrange(4)
+            parts[at] = self.random.choice([b"\0\0\7", self.changed(parts[at])])
+        image = model.framed(parts)
+        return self.changed(image) if kind == "image" else image
+
+    def command(self):
+        name = self.random.choice([b"get", b"put", b"put", b"put", b"del", b"row"])
+        fields = [self.key(), self.key(), self.value()][: len(model.FORMS[name])]
+        return b" ".join([name] + [self.field(field) for field in fields])
+
+    def text(self):
+        self.at_edges = self.chance(0.5)
+        try:
+            image = self.image()
+        except OverflowError:  # the starts of so long a list don't fit their fields
+            return self.text()
+        lines = [self.field(image)] + [self.command() for _ in range(self.random.choice([0, 1, 2, 5, 20, 60]))]
+        text = bytearray(b"\n".join(lines) + (b"\n" if self.chance(0.8) else b""))
+        if self.chance(0.1):
+            at = self.random.randrange(len(text))
+            text[at : at + self.random.randrange(2)] = self.random.choice([b" ", b"\n", b"x", b"g", b"\xff", b"\r", b""])
+        return bytes(text)
+
+
+def main():
+    seconds = float(sys.argv[1]) if len(sys.argv) > 1 else 60
+    inputs = Inputs(int(sys.argv[2]) if len(sys.argv) > 2 else 1)
+    seen, end = collections.Counter(), time.monotonic() + seconds
+    while time.monotonic() < end:
+        text = inputs.text()
+        done = subprocess.run([PROGRAM, "edit"], input=text, capture_output=True, check=False)
+        wanted, status = model.edit(text)
+        if (done.stdout, done.returncode) != (wanted, status):
+            with open("differs.txt", "wb") as file:
+                file.write(text)
+            sys.exit(f"differs.txt is answered otherwise: status {done.returncode}, and {status} by the model")
+        seen["inputs"] += 1
+        seen.update(line.split(b" ")[0].decode() for line in wanted.splitlines() if status == 0)
+        if status != 0:
+            seen[wanted.decode().strip() if status == 5 else "error line"] += 1
+    print(", ".join(f"{count} {word}" for word, count in seen.most_common()))
+
+
+if __name__ == "__main__":
+    main()

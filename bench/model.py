@@ -1,0 +1,198 @@
+"""A model of `zv edit` in Python, written from docs/FORMATS.md and apart from the program: see compare.py."""
+import re
+
+MOST = 65_535  # what a field of two bytes holds
+MOST_INPUT = 16_777_216
+WIDTH = 2
+
+
+class Refused(Exception):
+    """The word for the first cause for which an image is refused."""
+
+
+def encoded(elements):
+    """A list of elements of any length: count, starts but for the first, bytes."""
+    if not elements:
+        return b""
+    out, start = len(elements).to_bytes(WIDTH, "little"), 0
+    for element in elements[:-1]:
+        start += len(element)
+        out += start.to_bytes(WIDTH, "little")
+    return out + b"".join(elements)
+
+
+def decoded(part, is_valid):
+    """The list that a part spells."""
+    if not part:
+        return []
+    if len(part) < WIDTH:
+        raise Refused("parse")
+    fields = [int.from_bytes(part[i : i + WIDTH], "little") for i in range(0, len(part) - 1, WIDTH)]
+    count = fields[0]
+    if count == 0:
+        return []
+    data = part[WIDTH * count :]
+    ends = fields[1:count] + [len(data)]
+    if len(part) < WIDTH * count:
+        raise Refused("parse")
+    elements = []
+    for start, end in zip([0] + ends, ends):
+        if not start <= end <= len(data) or not is_valid(data[start:end]):
+            raise Refused("parse")
+        elements.append(data[start:end])
+    return elements
+
+
+def is_text(element):
+    try:
+        element.decode()
+    except UnicodeDecodeError:
+        return False
+    return True
+
+
+def framed(parts):
+    return b"".join(len(part).to_bytes(8, "little") + part for part in parts)
+
+
+def unframed(image):
+    parts, at = [], 0
+    for _ in range(4):
+        length = int.from_bytes(image[at : at + 8], "little")
+        if len(image) < at + 8 or len(image) < at + 8 + length:
+            raise Refused("frame")
+        parts.append(image[at + 8 : at + 8 + length])
+        at += 8 + length
+    if at != len(image):
+        raise Refused("frame")
+    return parts
+
+
+def ascends(numbers_or_keys):
+    return all(a < b for a, b in zip(numbers_or_keys, numbers_or_keys[1:]))
+
+
+def parsed(image):
+    """The map of an image, as a dict of dicts, or the cause for which it is refused."""
+    keys0, joiner, keys1, values = unframed(image)
+    if len(joiner) % 4:
+        raise Refused("length")
+    keys0, keys1, values = decoded(keys0, is_text), decoded(keys1, is_text), decoded(values, lambda _: True)
+    ends = [int.from_bytes(joiner[i : i + 4], "little") for i in range(0, len(joiner), 4)]
+    if len(keys0) != len(ends):
+        raise Refused("keys0joiner")
+    if len(keys1) != len(values):
+        raise Refused("keys1values")
+    if not ascends([0] + ends):
+        raise Refused("joinerorder")
+    if ([0] + ends)[-1] != len(keys1):
+        raise Refused("joinerend")
+    rows = list(zip([0] + ends, ends))
+    if not ascends(keys0) or not all(ascends(keys1[start:end]) for start, end in rows):
+        raise Refused("keyorder")
+    return {key: dict(zip(keys1[start:end], values[start:end])) for key, (start, end) in zip(keys0, rows)}
+
+
+def lists(rows):
+    """The four lists of a map: first keys, ends of rows, second keys, values."""
+    keys0 = sorted(rows)
+    pairs = [[(key, rows[first][key]) for key in sorted(rows[first])] for first in keys0]
+    ends = [sum(map(len, pairs[: i + 1])) for i in range(len(pairs))]
+    return keys0, ends, [key for row in pairs for key, _ in row], [value for row in pairs for _, value in row]
+
+
+def parts(keys0, ends, keys1, values):
+    return [encoded(keys0), b"".join(end.to_bytes(4, "little") for end in ends), encoded(keys1), encoded(values)]
+
+
+def size(elements):
+    return WIDTH * len(elements) + sum(map(len, elements))
+
+
+def takes(elements, length):
+    return length < MOST and (not elements or size(elements) + length + WIDTH <= MOST)
+
+
+def takes_instead(elements, old, length):
+    return length < MOST and (length <= old or size(elements) + length - old <= MOST)
+
+
+def fits(rows, key0, key1, value):
+    keys0, _, keys1, values = lists(rows)
+    old = rows.get(key0, {}).get(key1)
+    if old is not None:
+        return takes_instead(values, len(old), len(value))
+    return (key0 in rows or takes(keys0, len(key0))) and takes(keys1, len(key1)) and takes(values, len(value))
+
+
+def spelled(field):
+    return b"x" + field.hex().encode()
+
+
+def value_of(word):
+    return bytes.fromhex(word[1:].decode()) if re.fullmatch(rb"x([0-9a-fA-F]{2})*", word) else None
+
+
+def key_of(word):
+    field = value_of(word)
+    return field if field is not None and is_text(field) else None
+
+
+FORMS = {
+    b"get": [key_of, key_of],
+    b"put": [key_of, key_of, value_of],
+    b"del": [key_of, key_of],
+    b"row": [key_of],
+}
+
+
+def command_of(line):
+    """A command's name and fields, or None for a bad line."""
+    name, *words = line.split(b" ")
+    readers = FORMS.get(name)
+    if readers is None or len(readers) != len(words):
+        return None
+    fields = [read(word) for read, word in zip(readers, words)]
+    return None if None in fields else (name, fields)
+
+
+def reply(rows, name, fields):
+    """What a command answers. It changes the map."""
+    row = rows.get(fields[0])
+    if name == b"row":
+        pairs = [b" " + spelled(key) + b" " + spelled(row[key]) for key in sorted(row or {})]
+        return b"none" if row is None else b"row" + b"".join(pairs)
+    old = None if row is None else row.get(fields[1])
+    if name == b"get":
+        return b"none" if old is None else b"some " + spelled(old)
+    if name == b"put":
+        if not fits(rows, *fields):
+            return b"toolarge"
+        rows.setdefault(fields[0], {})[fields[1]] = fields[2]
+        return b"new" if old is None else b"old " + spelled(old)
+    if old is None:
+        return b"none"
+    del row[fields[1]]
+    if not row:
+        del rows[fields[0]]
+    return b"old " + spelled(old)
+
+
+def edit(text):
+    """What `zv edit` writes for an input, and its status."""
+    if len(text) > MOST_INPUT:
+        return b"", 3
+    lines = text.split(b"\n")
+    if not lines[-1]:
+        lines.pop()
+    image = value_of(lines[0]) if lines else None
+    commands = [command_of(line) for line in lines[1:]]
+    if image is None or None in commands:
+        return b"error line %d\n" % (1 if image is None else commands.index(None) + 2), 4
+    try:
+        rows = parsed(image)
+    except Refused as cause:
+        return b"error %s\n" % str(cause).encode(), 5
+    replies = [reply(rows, *command) for command in commands]
+    replies.append(b"image " + spelled(framed(parts(*lists(rows)))))
+    return b"\n".join(replies) + b"\n", 0
