@@ -1,6 +1,6 @@
 -- Worked examples of the size rule.
 use Rattle.std.specs.Prelude.{◌≡◌, ℕ, List, [], ◌∷◌, replicate, true, false}
-use Rattle.zv_owned.specs.Size.{takes_insert, takes_replace}
+use Rattle.zv_owned.specs.Size.{takes_insert, takes_pushes, takes_replace}
 
 -- the list of one element of n bytes
 abbrev pub one_of : ℕ → List (List ℕ)
@@ -45,3 +45,15 @@ FullTakesNone = takes_insert 1 (one_of 254) 0 ≡ false
 -- but another element of 254 bytes may stand in place of its own
 abbrev pub FullTakesSameSize : Type 0
 FullTakesSameSize = takes_replace 1 (one_of 254) 254 254 ≡ true
+
+-- elements of 100, of 100 and of n bytes
+abbrev pub three_of : ℕ → List (List ℕ)
+three_of n = replicate 100 97 ∷ replicate 100 97 ∷ replicate n 97 ∷ []
+
+-- with fields of one byte, those of 100, 100 and 52 bytes are taken one after another: they make a list of 255 bytes
+abbrev pub ThreeAreTaken : Type 0
+ThreeAreTaken = takes_pushes (takes_insert 1) [] (three_of 52) ≡ true
+
+-- and not with one byte more
+abbrev pub ThirdIsRefused : Type 0
+ThirdIsRefused = takes_pushes (takes_insert 1) [] (three_of 53) ≡ false

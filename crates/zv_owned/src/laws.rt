@@ -1,6 +1,6 @@
 // What the size rule means: worked examples, and laws. Each call does nothing, and its contract is
 // what it is for.
-ghost use Rattle.zv_owned.specs.Examples.{EmptyRefusesMost, EmptyTakesBelowMost, FullTakesNone, FullTakesSameSize, LongerSecondIsRefused, OnlyGivesWay, OnlyStays, SecondIsTaken, ShortRefusesMost, ShortTakesBelowMost};
+ghost use Rattle.zv_owned.specs.Examples.{EmptyRefusesMost, EmptyTakesBelowMost, FullTakesNone, FullTakesSameSize, LongerSecondIsRefused, OnlyGivesWay, OnlyStays, SecondIsTaken, ShortRefusesMost, ShortTakesBelowMost, ThirdIsRefused, ThreeAreTaken};
 ghost use Rattle.zv_owned.specs.Laws.{AnyOrder, InsertKeeps, RemoveKeeps, ReplaceKeeps, ShorterIsTaken};
 
 /// Elements at the edge of what a list takes.
@@ -15,6 +15,8 @@ pub fn sizes_by_hand()
     ensures short_refuses_most { ShortRefusesMost }
     ensures full_takes_none { FullTakesNone }
     ensures full_takes_same_size { FullTakesSameSize }
+    ensures three_taken { ThreeAreTaken }
+    ensures third_refused { ThirdIsRefused }
 {}
 
 /// A list that can be written still can after each change that the size rule takes, and after any
