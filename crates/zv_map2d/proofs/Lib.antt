@@ -1,6 +1,7 @@
 pub mod Ascents
 pub mod Changed
 pub mod Edited
+pub mod FiniteMap
 pub mod Fitting
 pub mod Flat
 pub mod Frames

@@ -174,7 +174,7 @@ module _ (order0 order1 : Bytes → Bytes → Ordering) (total0 : IsTotalOrder o
   maps_of (r ∷ m) all = (all.0.1, maps_of m all.1)
 
   -- the row of a key is ordered, be it empty
-  row_ordered : (m : Rows) (k0 : Bytes) → AllByRecursion (IsRow order1) m → IsMap order1 (row order0 m k0)
+  pub row_ordered : (m : Rows) (k0 : Bytes) → AllByRecursion (IsRow order1) m → IsMap order1 (row order0 m k0)
   unfolding IsStrictlySortedBy
   row_ordered m k0 all = found_or order0 (IsMap order1) [] tt m k0 (maps_of m all)
 

@@ -1,5 +1,6 @@
 pub mod Causes
 pub mod Changes
+pub mod FiniteMap
 pub mod Fits
 pub mod Found
 pub mod Frame

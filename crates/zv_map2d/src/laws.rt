@@ -1,5 +1,6 @@
 // What images and changes mean: worked ones, and laws.
 ghost use Rattle.zv_map2d.specs.Changes.{FirstPair, KeysThere, LongValues, MissingPair, NewFirstRow, NewPair, OneOfTwo, OnlyPair, OtherValue};
+ghost use Rattle.zv_map2d.specs.FiniteMap.{DelIsGone, DelIsWell, DelLeavesOthers, FoundAlike, PutIsFound, PutIsWell, PutLeavesOthers, TextsAreExact};
 ghost use Rattle.zv_map2d.specs.ImageRows.{Alone, Counts, Empty, Ends, Finds, Lengths, Neighbours, NoFrame, OnePair, OtherSpellings, Prefixes, Texts, TwoRows};
 ghost use Rattle.zv_map2d.specs.Laws.{CanonAgain, CanonStands, DelCodable, DelKeeps, EmptyStands, FitsAlike, FrameExactly, IsReadExactly, OneImage, PutCodable, PutKeeps, SameCanon, StandsForOne};
 ghost use Rattle.zv_map2d.specs.Locales.{Locales};
@@ -41,6 +42,20 @@ pub fn changes()
     ensures fits { FitsAlike }
     ensures again { CanonAgain }
     ensures same { SameCanon }
+{}
+
+/// A map in two levels is a finite map: after a put the pair has that value, after a removal it has
+/// none, any other pair has what it had, and maps in which the same is found are the same. It does
+/// nothing.
+pub fn finite_map()
+    ensures put { PutIsFound }
+    ensures put_others { PutLeavesOthers }
+    ensures put_well { PutIsWell }
+    ensures del { DelIsGone }
+    ensures del_others { DelLeavesOthers }
+    ensures del_well { DelIsWell }
+    ensures alike { FoundAlike }
+    ensures exact { TextsAreExact }
 {}
 
 /// Worked changes. It does nothing.
