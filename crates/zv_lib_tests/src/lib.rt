@@ -3,6 +3,7 @@
 
 #[cfg(test)]
 mod boxes;
+pub mod callers;
 #[cfg(test)]
 mod containers;
 #[cfg(test)]

@@ -1,4 +1,5 @@
 // Maps in two levels at other kinds than those of an image.
+use crate::callers::{Regions, clear_region, region, set_region};
 use std::alloc::Global;
 use std::process::Abort;
 use std::test::Fail;
@@ -107,4 +108,23 @@ fn a_row_is_asked_by_its_second_keys(rt: HostRuntime) -> Result<(), Fail> {
         [2, 0, 0, 0, 44, 1, 0, 0].as_slice()
     );
     Ok(())
+}
+
+#[test]
+fn a_table_of_regions(rt: HostRuntime) {
+    let alloc = rt.alloc();
+    let mut table = Regions::new();
+    assert!(rt; set_region(&mut table, alloc, "sd", "Deva", "PK") == Ok(true));
+    assert!(rt; set_region(&mut table, alloc, "sd", "Deva", "IN") == Ok(false));
+    assert!(rt; set_region(&mut table, alloc, "sd", "Arab", "PK") == Ok(true));
+    assert_eq!(rt;
+        region(&table, "sd", "Deva").map(|it| it.as_str()),
+        Some("IN")
+    );
+    assert!(rt; clear_region(&mut table, alloc, "sd", "Deva") == Ok(()));
+    assert!(rt; region(&table, "sd", "Deva").is_none());
+    assert_eq!(rt;
+        region(&table, "sd", "Arab").map(|it| it.as_str()),
+        Some("PK")
+    );
 }
