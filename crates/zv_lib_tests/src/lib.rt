@@ -1,15 +1,9 @@
-//! Tests of the crates below the program, at concrete types.
+//! Tests of the crates of vectors, containers and maps at concrete kinds, and callers of them.
 #![tactic(auto)]
 
-#[cfg(test)]
-mod boxes;
 pub mod callers;
 #[cfg(test)]
 mod containers;
-#[cfg(test)]
-mod elements;
-#[cfg(test)]
-mod impls;
 #[cfg(test)]
 mod maps;
 #[cfg(test)]

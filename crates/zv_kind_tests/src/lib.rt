@@ -1,0 +1,9 @@
+//! Tests of elements, at each kind.
+#![tactic(auto)]
+
+#[cfg(test)]
+mod boxes;
+#[cfg(test)]
+mod elements;
+#[cfg(test)]
+mod impls;
