@@ -1,5 +1,5 @@
 // Callers of maps with contracts of their own, as a crate over them has.
-ghost use Rattle.std.specs.Prelude.{◌≡◌, Some, None, OnErr, OnOk, option_map};
+ghost use Rattle.std.specs.Prelude.{◌≡◌, Some, None, IfOk, OnErr, OnOk, is_none, option_map};
 ghost use Rattle.zv_ule.specs.Views.{element_of};
 ghost use Rattle.zv_map2d.specs.Image.{by_bytes};
 ghost use Rattle.zv_map2d.specs.Rows.{find};
@@ -32,6 +32,7 @@ pub fn set_region(
     region: &str,
 ) -> Result<bool, Map2dError>
     ensures found { OnOk result (find by_bytes by_bytes table.new.rows language.now script.now ≡ Some region.now) }
+    ensures had_none { IfOk result (λ had_none. had_none ≡ is_none (find by_bytes by_bytes table.old.rows language.now script.now)) }
     ensures err { OnErr result (table.new ≡ table.old) }
 {
     let old = table.insert(alloc, &language, &script, &region)?;
