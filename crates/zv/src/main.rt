@@ -7,7 +7,8 @@ use std::rt::Env;
 use std::{env, io};
 use zv_tool::{Status, StdSink, StdSource, Words, run};
 
-// The number to end with where the runtime refuses the arguments, as where one isn't a text. No `Status` has it.
+// The number to end with where the runtime refuses the arguments, as where one isn't a text. No
+// `Status` has it.
 const NO_ARGUMENTS: u8 = 8;
 
 // The words after the program's name, or the number to end with.

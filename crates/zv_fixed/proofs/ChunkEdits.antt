@@ -1,5 +1,6 @@
 -- Bytes with a chunk more, with another chunk in place of one, and without one.
-use Rattle.std.proofs.Common.{◌≡◌, ℕ, zero, suc, ◌+◌, ◌-◌, ◌*◌, ◌/◌, ◌%◌, ◌<◌, ◌≤◌, List, [], ◌∷◌, ◌++◌, length, take, drop, map, get_or, Option, Some, None, refl, ap, sym, ◌∙◌, arith, append_assoc, length-drop}
+use Rattle.std.proofs.Common.{◌≡◌, ℕ, zero, suc, ◌+◌, ◌-◌, ◌*◌, ◌/◌, ◌%◌, ◌<◌, ◌≤◌, List, [], ◌∷◌, ◌++◌, length, take, drop, map, get_or, Option, Some, None}
+use Rattle.std.proofs.Common.{refl, ap, sym, ◌∙◌, arith, append_assoc, length-drop}
 use Rattle.std.specs.Prelude.{insert, remove, slice_get, slice_set, IsTrue, OnOk, OnErr, Result, Ok, Err}
 use Rattle.std.specs.List.{splice, remove_range, take-map, drop-map}
 use Rattle.std.proofs.Math.Seq.{take-add}
@@ -11,7 +12,7 @@ use Rattle.zv_ule.specs.declared.error.TyName.{TyName}
 use Rattle.zv_ule.specs.declared.error.UleError.{UleError}
 use Rattle.zv_ule.specs.Chunks.{chunks, chunks_of, first_fault, chunks_fault}
 use Rattle.zv_ule.specs.Fixed.{is_width}
-use Rattle.zv_ule.specs.Joined.{front_of, back_of, or_none, length-chunks}
+use Rattle.zv_ule.specs.laws.Joined.{front_of, back_of, or_none, length-chunks}
 use Rattle.zv_ule.proofs.At.{drop_twice, none_times, place}
 use Rattle.zv_ule.proofs.ChunkFaults.{one_more, whole_after, whole_fault, width_pos}
 use Rattle.zv_ule.proofs.Lists.{whole_if}
@@ -111,25 +112,29 @@ long_remove : (b : List ℕ) (a w : ℕ) → a + w ≤ length b → w + length (
 long_remove b a w le = grind (arith, common_steps)
 
 -- all chunks of a list that is a chunk longer
-pub insert_chunks : (w i : ℕ) (b c : List ℕ) → 0 < w → i ≤ length (chunks_of w b) → length c ≡ w → chunks_of w (splice b (i * w) (i * w) c) ≡ insert (chunks_of w b) i c
+pub insert_chunks : (w i : ℕ) (b c : List ℕ) → 0 < w → i ≤ length (chunks_of w b) → length c ≡ w →
+    chunks_of w (splice b (i * w) (i * w) c) ≡ insert (chunks_of w b) i c
 insert_chunks w i b c pos le long =
     let n = length b / w in
     let within : i ≤ n = omega (arith, le, length-chunks w n b) in
     let count : length (splice b (i * w) (i * w) c) / w ≡ suc n = one_more w (length b) _ pos (omega (arith, long_insert b c (i * w), long)) in
     ap (λ k. chunks w k (splice b (i * w) (i * w) c)) count ∙ chunks_insert w n i b c within (div-mul-le_self (length b) w) long
 
-pub insert_fault : (ty : TyName) (f : List ℕ → Option UleError) (w i : ℕ) (b c : List ℕ) → 0 < w → i ≤ length (chunks_of w b) → length c ≡ w → f c ≡ None → chunks_fault ty w f b ≡ None → chunks_fault ty w f (splice b (i * w) (i * w) c) ≡ None
+pub insert_fault : (ty : TyName) (f : List ℕ → Option UleError) (w i : ℕ) (b c : List ℕ) → 0 < w → i ≤ length (chunks_of w b) → length c ≡ w → f c ≡ None →
+    chunks_fault ty w f b ≡ None → chunks_fault ty w f (splice b (i * w) (i * w) c) ≡ None
 insert_fault ty f w i b c pos le long good h =
     let p = whole_if ty w f b h in
     let cs = chunks_of w b in
-    let whole : length (splice b (i * w) (i * w) c) % w ≡ 0 = ap (λ n. n % w) (long_insert b c (i * w) ∙ ap (λ k. k + length b) long) ∙ add-mod_left w (length b) ∙ p.0 in
+    let whole : length (splice b (i * w) (i * w) c) % w ≡ 0 = ap (λ n. n % w) (long_insert b c (i * w) ∙ ap (λ k. k + length b) long)
+    ∙ add-mod_left w (length b) ∙ p.0 in
     let rest : first_fault f (c ∷ drop i cs) ≡ None = rw good (faults_back f i cs p.1) in
     whole_fault ty w f _ whole
     ∙ ap (first_fault f) (insert_chunks w i b c pos le long)
     ∙ faults_joined f (take i cs) (c ∷ drop i cs) (faults_front f i cs p.1) rest
 
 -- all chunks of a list in which one is another
-pub set_chunks : (w i : ℕ) (b c : List ℕ) → 0 < w → i < length (chunks_of w b) → length c ≡ w → chunks_of w (splice b (i * w) (suc i * w) c) ≡ slice_set (chunks_of w b) i c
+pub set_chunks : (w i : ℕ) (b c : List ℕ) → 0 < w → i < length (chunks_of w b) → length c ≡ w →
+    chunks_of w (splice b (i * w) (suc i * w) c) ≡ slice_set (chunks_of w b) i c
 set_chunks w i b c pos lt long =
     let n = length b / w in
     let within : i < n = omega (arith, lt, length-chunks w n b) in
@@ -137,12 +142,14 @@ set_chunks w i b c pos lt long =
     let same : length (splice b (i * w) (suc i * w) c) ≡ length b = long_set b c (i * w) (suc i * w) (omega (arith, long, suc-mul i w)) end in
     ap (λ k. chunks w (k / w) (splice b (i * w) (suc i * w) c)) same ∙ chunks_set w n i b c within (div-mul-le_self (length b) w) long
 
-pub set_fault : (ty : TyName) (f : List ℕ → Option UleError) (w i : ℕ) (b c : List ℕ) → 0 < w → i < length (chunks_of w b) → length c ≡ w → f c ≡ None → chunks_fault ty w f b ≡ None → chunks_fault ty w f (splice b (i * w) (suc i * w) c) ≡ None
+pub set_fault : (ty : TyName) (f : List ℕ → Option UleError) (w i : ℕ) (b c : List ℕ) → 0 < w → i < length (chunks_of w b) → length c ≡ w → f c ≡ None →
+    chunks_fault ty w f b ≡ None → chunks_fault ty w f (splice b (i * w) (suc i * w) c) ≡ None
 set_fault ty f w i b c pos lt long good h =
     let p = whole_if ty w f b h in
     let cs = chunks_of w b in
     let end : suc i * w ≤ length b = omega (arith, place w b i lt, suc-mul i w) in
-    let whole : length (splice b (i * w) (suc i * w) c) % w ≡ 0 = ap (λ n. n % w) (long_set b c (i * w) (suc i * w) (omega (arith, long, suc-mul i w)) end) ∙ p.0 in
+    let whole : length (splice b (i * w) (suc i * w) c) % w ≡ 0 = ap (λ n. n % w) (long_set b c (i * w) (suc i * w) (omega (arith, long, suc-mul i w)) end)
+    ∙ p.0 in
     let rest : first_fault f (c ∷ drop (suc i) cs) ≡ None = rw good (faults_back f (suc i) cs p.1) in
     whole_fault ty w f _ whole
     ∙ ap (first_fault f) (set_chunks w i b c pos lt long ∙ set_split cs i c lt)
@@ -161,7 +168,8 @@ remove_chunks w i b pos lt =
     ∙ chunks_remove w n i b within fits
     ∙ ap (λ k. remove (chunks w k b) i) (sym count)
 
-pub remove_fault : (ty : TyName) (f : List ℕ → Option UleError) (w i : ℕ) (b : List ℕ) → 0 < w → i < length (chunks_of w b) → chunks_fault ty w f b ≡ None → chunks_fault ty w f (remove_range b (i * w) (i * w + w)) ≡ None
+pub remove_fault : (ty : TyName) (f : List ℕ → Option UleError) (w i : ℕ) (b : List ℕ) → 0 < w → i < length (chunks_of w b) → chunks_fault ty w f b ≡ None →
+    chunks_fault ty w f (remove_range b (i * w) (i * w + w)) ≡ None
 remove_fault ty f w i b pos lt h =
     let p = whole_if ty w f b h in
     let cs = chunks_of w b in
@@ -201,18 +209,22 @@ module _ (w i a : ℕ) (held old new : List ℕ) (usable : IsTrue (is_width w)) 
   pub chunks_inserted : (c : List ℕ) → i ≤ length (chunks_of w old) → length c ≡ w → new ≡ splice held a a c → chunks_of w new ≡ insert (chunks_of w old) i c
   chunks_inserted c le long is = rw (is, same, at) (insert_chunks w i old c (width_pos w usable) le long)
 
-  pub fault_inserted : (ty : TyName) (f : List ℕ → Option UleError) (c : List ℕ) → i ≤ length (chunks_of w old) → length c ≡ w → f c ≡ None → chunks_fault ty w f held ≡ None → new ≡ splice held a a c → chunks_fault ty w f new ≡ None
-  fault_inserted ty f c le long good h is = rw (is, same, at) (insert_fault ty f w i old c (width_pos w usable) le long good (ap (chunks_fault ty w f) (sym same) ∙ h))
+  pub fault_inserted : (ty : TyName) (f : List ℕ → Option UleError) (c : List ℕ) → i ≤ length (chunks_of w old) → length c ≡ w → f c ≡ None →
+      chunks_fault ty w f held ≡ None → new ≡ splice held a a c → chunks_fault ty w f new ≡ None
+  fault_inserted ty f c le long good h is = rw (is, same, at)
+      (insert_fault ty f w i old c (width_pos w usable) le long good (ap (chunks_fault ty w f) (sym same) ∙ h))
 
   pub end_in : (e : ℕ) → i < length (chunks_of w old) → e ≡ a + w → e ≤ length held
   end_in e lt is = omega (arith, place w old i lt, ap length same, is, at)
 
-  pub chunks_replaced : (c : List ℕ) (e : ℕ) → i < length (chunks_of w old) → length c ≡ w → e ≡ a + w → new ≡ splice held a e c → chunks_of w new ≡ slice_set (chunks_of w old) i c
+  pub chunks_replaced : (c : List ℕ) (e : ℕ) → i < length (chunks_of w old) → length c ≡ w → e ≡ a + w → new ≡ splice held a e c →
+      chunks_of w new ≡ slice_set (chunks_of w old) i c
   chunks_replaced c e lt long end is =
       let next : e ≡ suc i * w = omega (arith, end, at, suc-mul i w) in
       rw (is, same, next, at) (set_chunks w i old c (width_pos w usable) lt long)
 
-  pub fault_replaced : (ty : TyName) (f : List ℕ → Option UleError) (c : List ℕ) (e : ℕ) → i < length (chunks_of w old) → length c ≡ w → f c ≡ None → chunks_fault ty w f held ≡ None → e ≡ a + w → new ≡ splice held a e c → chunks_fault ty w f new ≡ None
+  pub fault_replaced : (ty : TyName) (f : List ℕ → Option UleError) (c : List ℕ) (e : ℕ) → i < length (chunks_of w old) → length c ≡ w → f c ≡ None →
+      chunks_fault ty w f held ≡ None → e ≡ a + w → new ≡ splice held a e c → chunks_fault ty w f new ≡ None
   fault_replaced ty f c e lt long good h end is =
       let next : e ≡ suc i * w = omega (arith, end, at, suc-mul i w) in
       rw (is, same, next, at) (set_fault ty f w i old c (width_pos w usable) lt long good (ap (chunks_fault ty w f) (sym same) ∙ h))
@@ -220,7 +232,8 @@ module _ (w i a : ℕ) (held old new : List ℕ) (usable : IsTrue (is_width w)) 
   pub chunks_removed : (e : ℕ) → i < length (chunks_of w old) → e ≡ a + w → new ≡ remove_range held a e → chunks_of w new ≡ remove (chunks_of w old) i
   chunks_removed e lt end is = rw (is, same, end, at) (remove_chunks w i old (width_pos w usable) lt)
 
-  pub fault_removed : (ty : TyName) (f : List ℕ → Option UleError) (e : ℕ) → i < length (chunks_of w old) → chunks_fault ty w f held ≡ None → e ≡ a + w → new ≡ remove_range held a e → chunks_fault ty w f new ≡ None
+  pub fault_removed : (ty : TyName) (f : List ℕ → Option UleError) (e : ℕ) → i < length (chunks_of w old) → chunks_fault ty w f held ≡ None → e ≡ a + w →
+      new ≡ remove_range held a e → chunks_fault ty w f new ≡ None
   fault_removed ty f e lt h end is = rw (is, same, end, at) (remove_fault ty f w i old (width_pos w usable) lt (ap (chunks_fault ty w f) (sym same) ∙ h))
 
 module _ {X : Type 0} (value : List ℕ → X) (cs new : List (List ℕ)) (vs : List X) (i : ℕ) (read : map value cs ≡ vs) where

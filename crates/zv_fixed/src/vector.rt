@@ -1,26 +1,26 @@
 // Lists of values that may be changed.
-ghost use Rattle.std.specs.Prelude.{◌≡◌, ◌==◌, ◌+◌, ◌-◌, ◌*◌, ◌^◌, ◌<◌, ◌≤◌, [], ◌∷◌, ◌++◌, length, flat_map, insert, remove, slice_index_or, slice_set, true, false, Some, None, IsTrue, IfOk, IsOk, OnOk, OnErr, MatchOption};
+ghost use Rattle.std.specs.Prelude.{◌≡◌, ◌==◌, ◌+◌, ◌-◌, ◌*◌, ◌^◌, ◌<◌, ◌≤◌, [], ◌∷◌, ◌++◌};
+ghost use Rattle.std.specs.Prelude.{length, flat_map, insert, remove, slice_index_or, slice_set};
+ghost use Rattle.std.specs.Prelude.{true, false, Some, None, IsTrue, IfOk, IsOk, OnOk, OnErr};
+ghost use Rattle.std.specs.Prelude.{MatchOption};
 ghost use Rattle.std.specs.Result.{result_err};
 ghost use Rattle.std.specs.List.{slice_get};
 ghost use Rattle.zv_ule.specs.Chunks.{chunks_fault, chunks_of, values_of};
 ghost use Rattle.zv_ule.specs.Fixed.{is_width};
 
-use crate::held::Held;
+use crate::cow_bytes::CowBytes;
 use crate::iter::ZeroSliceIter;
 use crate::slice::ZeroSlice;
 use std::alloc::Global;
 use std::marker::{Model, PhantomData};
-use zv_ule::argument::ZvArg;
-use zv_ule::chunks::chunk_at;
-use zv_ule::element::{AsULE, ULE, load};
-use zv_ule::error::{NoMemory, UleError};
+use zv_ule::{AsULE, NoMemory, ULE, UleError, ZvArg, chunk_at, load};
 
 /// A list of values of fixed width in plain bytes, as `ZeroSlice`, that may be changed. It borrows
 /// its bytes until the first change, which copies them, and from then on owns them and changes
 /// them in place.
 #[derive(Drop)]
 pub struct ZeroVec<'a, T: AsULE> {
-    held: Held<'a>,
+    cow: CowBytes<'a>,
     of: PhantomData<T>,
 }
 
@@ -28,20 +28,20 @@ impl<'a, T: AsULE> Model for ZeroVec<'a, T> {
     ghost use Rattle.std.specs.Prelude.{◌≡◌, None, IsTrue};
     ghost use Rattle.zv_ule.specs.Chunks.{chunks_fault, values_of};
     ghost use Rattle.zv_ule.specs.Fixed.{is_width};
-    ghost use Rattle.zv_fixed.specs.Held.{held_bytes, held_spare, held_owned};
+    ghost use Rattle.zv_fixed.specs.CowBytes.{bytes_in, spare_in, owned_in};
     ghost use Rattle.zv_fixed.specs.Vectors.{Vector};
 
     ghost Value = { Vector T };
 
     ghost view = { λ v. record {
-      values = values_of T.ULE.width (λ b. T.loaded (T.ULE.value b)) (held_bytes v.held);
-      bytes = held_bytes v.held;
-      spare = held_spare v.held;
-      owned = held_owned v.held;
+      values = values_of T.ULE.width (λ b. T.loaded (T.ULE.value b)) (bytes_in v.cow);
+      bytes = bytes_in v.cow;
+      spare = spare_in v.cow;
+      owned = owned_in v.cow;
     } };
 
     ghost invariant = { λ v. IsTrue (is_width T.ULE.width)
-        × (chunks_fault T.ULE.TY T.ULE.width T.ULE.chunk_fault (held_bytes v.held) ≡ None) };
+        × (chunks_fault T.ULE.TY T.ULE.width T.ULE.chunk_fault (bytes_in v.cow) ≡ None) };
 }
 
 impl<'a, T: AsULE> ZeroVec<'a, T> {
@@ -56,7 +56,7 @@ impl<'a, T: AsULE> ZeroVec<'a, T> {
         ensures owned { result.owned ≡ false }
     {
         ZeroVec {
-            held: Held::Borrowed(&[]),
+            cow: CowBytes::Borrowed(&[]),
             of: PhantomData,
         }
     }
@@ -66,7 +66,8 @@ impl<'a, T: AsULE> ZeroVec<'a, T> {
     #[inline]
     pub fn parse_bytes(bytes: &'a [u8]) -> Result<Self, UleError>
         requires { IsTrue T.usable }
-        ensures error { result_err result ≡ chunks_fault T.ULE.TY T.ULE.width T.ULE.chunk_fault bytes.now }
+        ensures error { result_err result
+            ≡ chunks_fault T.ULE.TY T.ULE.width T.ULE.chunk_fault bytes.now }
         ensures values { IfOk result (λ v. v.values
             ≡ values_of T.ULE.width (λ b. T.loaded (T.ULE.value b)) bytes.now) }
         ensures bytes { IfOk result (λ v. v.bytes ≡ bytes.now) }
@@ -84,7 +85,7 @@ impl<'a, T: AsULE> ZeroVec<'a, T> {
         ensures owned { result.owned ≡ false }
     {
         ZeroVec {
-            held: Held::Borrowed(view.as_bytes()),
+            cow: CowBytes::Borrowed(view.as_bytes()),
             of: PhantomData,
         }
     }
@@ -95,16 +96,17 @@ impl<'a, T: AsULE> ZeroVec<'a, T> {
         ensures values { values_in result ≡ self.now.values }
         ensures bytes { bytes_of result ≡ self.now.bytes }
     {
-        ZeroSlice::of_valid(self.held.bytes())
+        ZeroSlice::of_valid(self.cow.bytes())
     }
 
     /// Views the list for as long as the bytes are borrowed, or gives `None` where it owns them.
     #[inline]
     pub fn as_maybe_borrowed(&self) -> Option<ZeroSlice<'a, T>>
         ensures { MatchOption result (self.now.owned ≡ true)
-            (λ s. (self.now.owned ≡ false) × (bytes_of s ≡ self.now.bytes)) }
+            (λ s. (self.now.owned ≡ false) × (bytes_of s ≡ self.now.bytes)
+            × (values_in s ≡ self.now.values)) }
     {
-        let bytes = self.held.borrowed()?;
+        let bytes = self.cow.borrowed()?;
         Some(ZeroSlice::of_valid(bytes))
     }
 
@@ -113,7 +115,7 @@ impl<'a, T: AsULE> ZeroVec<'a, T> {
     pub fn is_owned(&self) -> bool
         ensures { result ≡ self.now.owned }
     {
-        self.held.is_owned()
+        self.cow.is_owned()
     }
 }
 
@@ -199,20 +201,21 @@ impl<'a, T: AsULE> ZeroVec<'a, T> {
         ensures len { length (chunks_of T.ULE.width self.now.bytes) ≡ length self.now.values }
         ensures spells { chunks_fault T.ULE.TY T.ULE.width T.ULE.chunk_fault self.now.bytes ≡ None }
     {
-        let _bytes = self.held.bytes();
+        let _bytes = self.cow.bytes();
     }
 
     /// A list of the same values, which borrows the same bytes, or owns a copy of those that this
-    /// one owns.
+    /// one owns. It takes memory only where it is owned.
     #[inline]
     pub fn clone(&self, alloc: Global) -> Result<Self, NoMemory>
         ensures values { IfOk result (λ v. v.values ≡ self.now.values) }
         ensures bytes { IfOk result (λ v. v.bytes ≡ self.now.bytes) }
         ensures owned { IfOk result (λ v. v.owned ≡ self.now.owned) }
+        ensures borrowed { self.now.owned ≡ false → IsOk result }
     {
-        let held = self.held.clone(alloc)?;
+        let cow = self.cow.clone(alloc)?;
         Ok(ZeroVec {
-            held,
+            cow,
             of: PhantomData,
         })
     }
@@ -308,12 +311,12 @@ impl<'a, T: AsULE> ZeroVec<'a, T> {
         ensures fits { T.ULE.width ≤ self.old.spare → self.old.owned ≡ true → IsOk result }
         ensures spare { self.old.spare ≤ self.new.spare + T.ULE.width }
     {
-        let start = start_of::<T::ULE>(self.held.bytes(), index);
-        self.held.insert::<T, Q>(alloc, start, value)
+        let start = start_of::<T::ULE>(self.cow.bytes(), index);
+        self.cow.insert::<T, Q>(alloc, start, value)
     }
 
-    /// Puts the element that an argument stands for in place of the value at a place, as `set` does.
-    /// Its bytes are written straight into their place.
+    /// Puts the element that an argument stands for in place of the value at a place, as `set`
+    /// does. Its bytes are written straight into their place.
     pub fn set_arg<Q: ZvArg<T>>(
         &mut self,
         alloc: Global,
@@ -331,9 +334,9 @@ impl<'a, T: AsULE> ZeroVec<'a, T> {
         ensures fits { self.old.owned ≡ true → IsOk result }
         ensures spare { self.old.spare ≤ self.new.spare }
     {
-        let start = start_of::<T::ULE>(self.held.bytes(), index);
+        let start = start_of::<T::ULE>(self.cow.bytes(), index);
         let end = start + value.arg_len();
-        self.held.set::<T, Q>(alloc, start, end, value)
+        self.cow.set::<T, Q>(alloc, start, end, value)
     }
 
     /// Takes the value at a place out of the list and gives it. A list that owns its bytes moves
@@ -352,12 +355,12 @@ impl<'a, T: AsULE> ZeroVec<'a, T> {
         ensures spare { self.old.spare ≤ self.new.spare }
     {
         self.all_read();
-        let bytes = self.held.bytes();
+        let bytes = self.cow.bytes();
         let start = start_of::<T::ULE>(bytes, index);
         let chunk = chunk_at::<T::ULE>(bytes, index);
         let end = start + chunk.len();
         let value = load::<T>(chunk);
-        self.held.remove(alloc, start, end)?;
+        self.cow.remove(alloc, start, end)?;
         Ok(value)
     }
 
@@ -368,7 +371,7 @@ impl<'a, T: AsULE> ZeroVec<'a, T> {
         ensures bytes { self.new.bytes ≡ [] }
         ensures owned { self.new.owned ≡ false }
     {
-        self.held = Held::Borrowed(&[]);
+        self.cow = CowBytes::Borrowed(&[]);
     }
 
     /// Takes all values out of the list. A list that owns its bytes keeps its memory.
@@ -379,6 +382,6 @@ impl<'a, T: AsULE> ZeroVec<'a, T> {
         ensures owned { self.new.owned ≡ self.old.owned }
         ensures spare { self.old.spare ≤ self.new.spare }
     {
-        self.held.clear();
+        self.cow.clear();
     }
 }

@@ -6,11 +6,9 @@ use std::num::{NonZeroI8, NonZeroU8};
 use std::test::Fail;
 use zv_map::{KvSlice, MutableZeroVecLike, ZeroMapKV, ZeroVecLike, ZeroVecSearch, ZvContainer};
 use zv_owned::VarZeroVecOwned;
-use zv_ule::element::store;
 use zv_ule::{
-    AsULE, CharULE, EncodeAsVarULE, Index16, Index32, NichedOption, NoMemory, RawBytesULE,
-    SliceAsULE, SliceULE, StrULE, TyName, ULE, UleError, VarBox, VarRef, VarULE, ZvKind, ZvOrd,
-    ZvOrdArg, encode_varule_to_box,
+    AsULE, CharULE, Index16, Index32, NichedOption, RawBytesULE, SliceAsULE, SliceULE, StrULE,
+    TyName, ULE, UleError, VarBox, VarRef, ZvKind, ZvOrd, ZvOrdArg, encode_varule_to_box, store,
 };
 use zv_var::VarZeroSliceULE;
 
@@ -215,47 +213,6 @@ fn texts_and_slices_are_ordered(rt: HostRuntime) -> Result<(), Fail> {
     Ok(())
 }
 
-// Whether a value is encoded as these bytes.
-fn is_encoded_as<K: VarULE, S: EncodeAsVarULE<K>>(
-    alloc: Global,
-    value: &S,
-    bytes: &[u8],
-) -> Result<bool, NoMemory>
-    requires { IsTrue K.usable }
-{
-    if !value.encode_var_ule_fits() {
-        return Ok(false);
-    }
-    let written = encode_varule_to_box::<S, K>(alloc, value)?;
-    Ok(*written.as_bytes() == *bytes)
-}
-
-#[test]
-fn texts_are_encoded(rt: HostRuntime) -> Result<(), Fail> {
-    let alloc = rt.alloc();
-    let text = String::from_str(alloc, "ab")?;
-    let view = VarRef::of_str("ab");
-    let owned: VarBox<StrULE> = encode_varule_to_box(alloc, &text)?;
-    assert!(rt; is_encoded_as::<StrULE, &str>(alloc, &"ab", b"ab")?);
-    assert!(rt; is_encoded_as::<StrULE, String>(alloc, &text, b"ab")?);
-    assert!(rt; is_encoded_as::<StrULE, &String>(alloc, &&text, b"ab")?);
-    assert!(rt; is_encoded_as::<StrULE, VarRef<'_, StrULE>>(alloc, &view, b"ab")?);
-    assert!(rt; is_encoded_as::<StrULE, VarBox<StrULE>>(alloc, &owned, b"ab")?);
-    Ok(())
-}
-
-#[test]
-fn slices_are_encoded(rt: HostRuntime) -> Result<(), Fail> {
-    let alloc = rt.alloc();
-    let chars = CharULE::from_array(['a', 'Ā']);
-    let list = Vec::from_slice(alloc, &chars)?;
-    let slice = chars.as_slice();
-    let bytes = b"\x61\0\0\0\x01\0";
-    assert!(rt; is_encoded_as::<SliceULE<CharULE>, &[CharULE]>(alloc, &slice, bytes)?);
-    assert!(rt; is_encoded_as::<SliceULE<CharULE>, Vec<CharULE>>(alloc, &list, bytes)?);
-    Ok(())
-}
-
 // The bytes that a slice is seen as.
 fn seen<T: SliceAsULE>(slice: &[T]) -> Option<&[u8]> {
     T::slice_to_unaligned(slice)
@@ -306,24 +263,55 @@ fn numbers_become_raw_bytes(rt: HostRuntime) {
 
 type Of<'a, K> = <K as ZeroMapKV<'a>>::Container;
 
+// Whether the container of a kind takes two values, and is searched for the second and for one that
+// is missing.
+fn are_kept_in_order<'a, K: ZeroMapKV<'a> + ZvOrd, Q: ZvOrdArg<K>>(
+    alloc: Global,
+    low: &Q,
+    high: &Q,
+    bytes: &[u8],
+) -> bool
+    requires usable { IsTrue K.usable }
+    requires low { length (Q.bytes low.now) < 2 ^ 64 }
+    requires high { length (Q.bytes high.now) < 2 ^ 64 }
+{
+    let mut list = <K::Container as MutableZeroVecLike<'a, K>>::zvl_new();
+    list.zvl_push(alloc, low).is_ok()
+        && list.zvl_push(alloc, high).is_ok()
+        && *list.zvl_bytes() == *bytes
+        && list.zvl_binary_search(low) == Ok(0)
+        && list.zvl_binary_search(high) == Ok(1)
+}
+
+// Whether a value is missing from the list that the bytes spell, and would go to the place.
+fn is_missing<'a, K: ZeroMapKV<'a> + ZvOrd, Q: ZvOrdArg<K>>(
+    bytes: &'a [u8],
+    missing: &Q,
+    place: usize,
+) -> bool
+    requires usable { IsTrue K.usable }
+    requires below { length (Q.bytes missing.now) < 2 ^ 64 }
+{
+    match <K::Container as MutableZeroVecLike<'a, K>>::zvl_parse(bytes) {
+        Ok(list) => list.zvl_binary_search(missing) == Err(place),
+        Err(_) => false,
+    }
+}
+
 #[test]
-fn composed_kinds_are_kept(rt: HostRuntime) {
-    let alloc = rt.alloc();
-    let mut pairs = <Of<'_, (u16, char)> as MutableZeroVecLike<'_, (u16, char)>>::zvl_new();
-    assert_eq!(rt; pairs.zvl_push(alloc, &(255, 'b')), Ok(()));
-    assert_eq!(rt; pairs.zvl_push(alloc, &(256, 'a')), Ok(()));
-    assert_eq!(rt;
-        pairs.zvl_bytes(),
-        b"\xff\0\x62\0\0\0\x01\x61\0\0".as_slice()
-    );
-    assert_eq!(rt; pairs.zvl_binary_search(&(255, 'b')), Ok(0));
-    assert_eq!(rt; pairs.zvl_binary_search(&(255, 'c')), Err(1));
-    let mut options = <Of<'_, Option<u8>> as MutableZeroVecLike<'_, Option<u8>>>::zvl_new();
-    assert_eq!(rt; options.zvl_push(alloc, &None), Ok(()));
-    assert_eq!(rt; options.zvl_push(alloc, &Some(7)), Ok(()));
-    assert_eq!(rt; options.zvl_bytes(), [0, 0, 1, 7].as_slice());
-    assert_eq!(rt; options.zvl_binary_search(&Some(7)), Ok(1));
-    assert_eq!(rt; options.zvl_binary_search(&Some(0)), Err(1));
+fn pairs_are_kept(rt: HostRuntime) {
+    let bytes = b"\xff\0\x62\0\0\0\x01\x61\0\0";
+    let (low, high) = ((255, 'b'), (256, 'a'));
+    assert!(rt; are_kept_in_order::<(u16, char), (u16, char)>(rt.alloc(), &low, &high, bytes));
+    assert!(rt; is_missing::<(u16, char), (u16, char)>(bytes, &(255, 'c'), 1));
+}
+
+#[test]
+fn options_are_kept(rt: HostRuntime) {
+    let bytes = [0, 0, 1, 7];
+    let (low, high) = (None, Some(7));
+    assert!(rt; are_kept_in_order::<Option<u8>, Option<u8>>(rt.alloc(), &low, &high, &bytes));
+    assert!(rt; is_missing::<Option<u8>, Option<u8>>(&bytes, &Some(0), 1));
 }
 
 // Whether the bytes are so many elements, in the container that maps keep the kind in.
@@ -337,43 +325,68 @@ fn are_kept<'a, K: ZeroMapKV<'a>>(bytes: &'a [u8], count: usize) -> bool
 }
 
 #[test]
-fn single_kinds_have_containers(rt: HostRuntime) {
+fn unsigned_numbers_have_containers(rt: HostRuntime) {
     let ones = [1; 48];
-    assert!(rt; are_kept::<u8>(&ones, 48));
-    assert!(rt; are_kept::<u16>(&ones, 24));
-    assert!(rt; are_kept::<u32>(&ones, 12));
-    assert!(rt; are_kept::<u64>(&ones, 6));
-    assert!(rt; are_kept::<u128>(&ones, 3));
-    assert!(rt; are_kept::<i8>(&ones, 48));
-    assert!(rt; are_kept::<i16>(&ones, 24));
-    assert!(rt; are_kept::<i32>(&ones, 12));
-    assert!(rt; are_kept::<i64>(&ones, 6));
-    assert!(rt; are_kept::<i128>(&ones, 3));
-    assert!(rt; are_kept::<char>(&ones, 16));
-    assert!(rt; are_kept::<NonZeroU8>(&ones, 48));
-    assert!(rt; are_kept::<NonZeroI8>(&ones, 48));
+    let kept = [
+        are_kept::<u8>(&ones, 48),
+        are_kept::<u16>(&ones, 24),
+        are_kept::<u32>(&ones, 12),
+        are_kept::<u64>(&ones, 6),
+        are_kept::<u128>(&ones, 3),
+    ];
+    assert_eq!(rt; kept, [true; 5]);
 }
 
 #[test]
-fn options_and_arrays_have_containers(rt: HostRuntime) {
+fn signed_numbers_have_containers(rt: HostRuntime) {
     let ones = [1; 48];
-    assert!(rt; are_kept::<Option<u8>>(&ones, 24));
-    assert!(rt; are_kept::<NichedOption<NonZeroU8, 1>>(&ones, 48));
-    assert!(rt; are_kept::<[u8; 2]>(&ones, 24));
-    assert!(rt; are_kept::<[u16; 2]>(&ones, 12));
-    assert!(rt; are_kept::<[u32; 2]>(&ones, 6));
-    assert!(rt; are_kept::<[u64; 2]>(&ones, 3));
-    assert!(rt; are_kept::<[char; 2]>(&ones, 8));
+    let kept = [
+        are_kept::<i8>(&ones, 48),
+        are_kept::<i16>(&ones, 24),
+        are_kept::<i32>(&ones, 12),
+        are_kept::<i64>(&ones, 6),
+        are_kept::<i128>(&ones, 3),
+    ];
+    assert_eq!(rt; kept, [true; 5]);
+}
+
+#[test]
+fn other_single_kinds_have_containers(rt: HostRuntime) {
+    let ones = [1; 48];
+    let kept = [
+        are_kept::<char>(&ones, 16),
+        are_kept::<NonZeroU8>(&ones, 48),
+        are_kept::<NonZeroI8>(&ones, 48),
+        are_kept::<Option<u8>>(&ones, 24),
+        are_kept::<NichedOption<NonZeroU8, 1>>(&ones, 48),
+    ];
+    assert_eq!(rt; kept, [true; 5]);
+}
+
+#[test]
+fn arrays_have_containers(rt: HostRuntime) {
+    let ones = [1; 48];
+    let kept = [
+        are_kept::<[u8; 2]>(&ones, 24),
+        are_kept::<[u16; 2]>(&ones, 12),
+        are_kept::<[u32; 2]>(&ones, 6),
+        are_kept::<[u64; 2]>(&ones, 3),
+        are_kept::<[char; 2]>(&ones, 8),
+    ];
+    assert_eq!(rt; kept, [true; 5]);
 }
 
 #[test]
 fn tuples_have_containers(rt: HostRuntime) {
     let ones = [1; 48];
-    assert!(rt; are_kept::<(u8, u16)>(&ones, 16));
-    assert!(rt; are_kept::<(u8, u16, u8)>(&ones, 12));
-    assert!(rt; are_kept::<(u8, u8, u8, u8)>(&ones, 12));
-    assert!(rt; are_kept::<(u8, u8, u8, u8, u16)>(&ones, 8));
-    assert!(rt; are_kept::<(u8, u8, u8, u8, u8, u8)>(&ones, 8));
+    let kept = [
+        are_kept::<(u8, u16)>(&ones, 16),
+        are_kept::<(u8, u16, u8)>(&ones, 12),
+        are_kept::<(u8, u8, u8, u8)>(&ones, 12),
+        are_kept::<(u8, u8, u8, u8, u16)>(&ones, 8),
+        are_kept::<(u8, u8, u8, u8, u8, u8)>(&ones, 8),
+    ];
+    assert_eq!(rt; kept, [true; 5]);
 }
 
 #[test]

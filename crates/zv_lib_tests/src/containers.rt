@@ -1,55 +1,84 @@
-// Lists as containers, at concrete kinds through their bounds.
+// Lists as containers, by the bounds through which maps know them.
+use std::alloc::Global;
 use std::cmp::Ordering;
+use std::process::Abort;
+use std::test::Fail;
 use zv_map::{
     Form, KvSlice, MutableZeroVecLike, ZeroMapKV, ZeroVecLike, ZeroVecSearch, ZeroVecSearchBy,
     ZvContainer,
 };
-use zv_ule::{SliceULE, StrULE};
+use zv_ule::{SliceULE, StrULE, VarBox, ZvKind};
 
 type Of<'a, K> = <K as ZeroMapKV<'a>>::Container;
 
-#[test]
-fn numbers_are_searched_and_changed(rt: HostRuntime) {
-    let alloc = rt.alloc();
-    let bytes = [1, 0, 3, 0, 5, 0];
-    let Ok(mut list) = <Of<'_, u16> as MutableZeroVecLike<'_, u16>>::zvl_parse(&bytes) else {
-        panic!(rt; "the bytes are a list");
-    };
+// A container of the numbers 1, 3 and 5 is searched.
+fn finds_numbers<C: ZeroVecSearch<u16>>(rt: &impl Abort, list: &C) {
     assert_eq!(rt; list.zvl_len(), 3);
     assert_eq!(rt; list.zvl_binary_search(&3), Ok(1));
     assert_eq!(rt; list.zvl_binary_search(&4), Err(2));
     assert_eq!(rt; list.zvl_binary_search_in_range(&5, 1..3), Some(Ok(1)));
+    assert!(rt; list.zvl_is_ascending());
+}
+
+// The same container is searched by predicates.
+fn finds_numbers_by<C: ZeroVecSearchBy<u16>>(rt: &impl Abort, list: &C) {
     assert_eq!(rt;
         list.zvl_binary_search_by(|element| element.cmp(&[5, 0].as_slice())),
         Ok(2)
     );
-    assert_eq!(rt;
-        list.zvl_binary_search_in_range_by(|element| element.cmp(&[4, 0].as_slice()), 1..3),
-        Some(Err(1))
-    );
-    assert_eq!(rt;
-        list.zvl_binary_search_in_range_by(|element| element.cmp(&[4, 0].as_slice()), 1..4),
-        None
-    );
-    assert!(rt; list.zvl_is_ascending());
+    for (end, place) in [(3, Some(Err(1))), (4, None)] {
+        assert_eq!(rt;
+            list.zvl_binary_search_in_range_by(|element| element.cmp(&[4, 0].as_slice()), 1..end),
+            place
+        );
+    }
+}
+
+// A container of these bytes borrows them, and the view that it gives makes it again.
+fn is_borrowed<'a, T: ZvKind, C: MutableZeroVecLike<'a, T> + Drop>(
+    rt: &impl Abort,
+    list: &C,
+    bytes: &[u8],
+) {
     assert!(rt; !list.zvl_is_owned());
     let Some(raw) = list.zvl_as_borrowed_inner() else {
         panic!(rt; "the list borrows its bytes");
     };
-    let Some(again) = <Of<'_, u16> as MutableZeroVecLike<'_, u16>>::zvl_from_borrowed(raw) else {
+    let Some(again) = C::zvl_from_borrowed(raw) else {
         panic!(rt; "the view fits");
     };
-    assert_eq!(rt; again.zvl_bytes(), bytes.as_slice());
+    assert_eq!(rt; again.zvl_bytes(), bytes);
+}
+
+// The numbers 1, 3 and 5 become 1, 9 and 5.
+fn replaces_a_number<'a, C: MutableZeroVecLike<'a, u16, OwnedType = u16>>(
+    rt: &impl Abort,
+    alloc: Global,
+    list: &mut C,
+) {
+    assert!(rt; 1 < list.zvl_len());
     assert_eq!(rt; list.zvl_replace(alloc, 1, &9), Ok(3));
     assert_eq!(rt; list.zvl_bytes(), [1, 0, 9, 0, 5, 0].as_slice());
     assert!(rt; list.zvl_is_owned());
     assert!(rt; list.zvl_as_borrowed_inner().is_none());
+}
+
+// The numbers 1, 9 and 5 become 0, 1, 5 and 7.
+fn changes_numbers<'a, C: MutableZeroVecLike<'a, u16, OwnedType = u16>>(
+    rt: &impl Abort,
+    alloc: Global,
+    list: &mut C,
+) {
     assert!(rt; !list.zvl_is_ascending());
+    assert!(rt; 1 < list.zvl_len());
     assert_eq!(rt; list.zvl_remove(alloc, 1), Ok(9));
     assert_eq!(rt; list.zvl_push(alloc, &7), Ok(()));
     assert_eq!(rt; list.zvl_insert(alloc, 0, &0), Ok(()));
     assert_eq!(rt; list.zvl_spelling(), [0, 0, 1, 0, 5, 0, 7, 0].as_slice());
-    let view = list.zvl_as_borrowed();
+}
+
+// A view of the numbers 0, 1, 5 and 7.
+fn shows_numbers(rt: &impl Abort, view: KvSlice<'_, u16>) {
     assert_eq!(rt; view.form(), Form::Fixed(2));
     let Some(element) = view.get(2) else {
         panic!(rt; "there are four elements");
@@ -60,15 +89,38 @@ fn numbers_are_searched_and_changed(rt: HostRuntime) {
         Ordering::Less
     );
     assert!(rt; view.get(4).is_none());
+}
+
+// A cleared container has no elements.
+fn is_cleared<T: ZvKind, C: ZvContainer<T>>(list: &mut C) -> bool {
     list.zvl_clear();
-    assert!(rt; list.zvl_is_empty());
-    assert!(rt; list.zvl_is_owned());
+    list.zvl_is_empty()
 }
 
 #[test]
-fn texts_are_searched_and_changed(rt: HostRuntime) {
-    let alloc = rt.alloc();
-    let mut list = <Of<'_, StrULE> as MutableZeroVecLike<'_, StrULE>>::zvl_new();
+fn numbers_are_searched(rt: HostRuntime) -> Result<(), Fail> {
+    let bytes = [1, 0, 3, 0, 5, 0];
+    let list = <Of<'_, u16> as MutableZeroVecLike<'_, u16>>::zvl_parse(&bytes)?;
+    finds_numbers(&rt, &list);
+    finds_numbers_by(&rt, &list);
+    is_borrowed::<u16, Of<'_, u16>>(&rt, &list, &bytes);
+    Ok(())
+}
+
+#[test]
+fn numbers_are_changed(rt: HostRuntime) -> Result<(), Fail> {
+    let bytes = [1, 0, 3, 0, 5, 0];
+    let mut list = <Of<'_, u16> as MutableZeroVecLike<'_, u16>>::zvl_parse(&bytes)?;
+    replaces_a_number(&rt, rt.alloc(), &mut list);
+    changes_numbers(&rt, rt.alloc(), &mut list);
+    shows_numbers(&rt, list.zvl_as_borrowed());
+    assert!(rt; is_cleared::<u16, Of<'_, u16>>(&mut list));
+    assert!(rt; list.is_owned());
+    Ok(())
+}
+
+// The empty list becomes "a", "b" and "ccc".
+fn adds_texts<'a, C: MutableZeroVecLike<'a, StrULE>>(rt: &impl Abort, alloc: Global, list: &mut C) {
     assert_eq!(rt; list.zvl_push(alloc, &"b"), Ok(()));
     assert_eq!(rt; list.zvl_insert(alloc, 0, &"a"), Ok(()));
     assert_eq!(rt; list.zvl_push(alloc, &"ccc"), Ok(()));
@@ -76,44 +128,124 @@ fn texts_are_searched_and_changed(rt: HostRuntime) {
         list.zvl_spelling(),
         [3, 0, 1, 0, 2, 0, 97, 98, 99, 99, 99].as_slice()
     );
+}
+
+// The texts "a", "b" and "ccc" are searched.
+fn finds_texts<C: ZeroVecSearch<StrULE>>(rt: &impl Abort, list: &C) {
     assert_eq!(rt; list.zvl_binary_search(&"b"), Ok(1));
     assert_eq!(rt;
         list.zvl_binary_search_by(|element| element.len().cmp(&3)),
         Ok(2)
     );
     assert!(rt; list.zvl_is_ascending());
-    let Ok(old) = list.zvl_replace(alloc, 1, &"bb") else {
-        panic!(rt; "the text fits");
-    };
+}
+
+// The texts "a", "b" and "ccc" become "bb" and "ccc".
+fn changes_texts<'a, C: MutableZeroVecLike<'a, StrULE, OwnedType = VarBox<StrULE>>>(
+    rt: &impl Abort,
+    alloc: Global,
+    list: &mut C,
+) -> Result<(), Fail> {
+    assert!(rt; 1 < list.zvl_len());
+    let old = list.zvl_replace(alloc, 1, &"bb")?;
     assert_eq!(rt; old.as_bytes(), [98].as_slice());
-    let Ok(old) = list.zvl_remove(alloc, 0) else {
-        panic!(rt; "there is memory");
-    };
+    assert!(rt; !list.zvl_is_empty());
+    let old = list.zvl_remove(alloc, 0)?;
     assert_eq!(rt; old.as_bytes(), [97].as_slice());
     assert_eq!(rt;
         list.zvl_bytes(),
         [2, 0, 2, 0, 98, 98, 99, 99, 99].as_slice()
     );
-    assert!(rt; list.zvl_takes_insert(65_535 - 9 - 2));
-    assert!(rt; !list.zvl_takes_insert(65_535 - 9 - 1));
+    Ok(())
+}
+
+// Which lengths the container takes as one element more.
+fn takes<T: ZvKind, C: ZvContainer<T>>(rt: &impl Abort, list: &C, inserts: &[(usize, bool)]) {
+    for (len, taken) in inserts {
+        assert_eq!(rt; list.zvl_takes_insert(*len), *taken, "{len}");
+    }
+}
+
+// Which lengths the container takes in place of its first element.
+fn gives_way<T: ZvKind, C: ZvContainer<T>>(rt: &impl Abort, list: &C, replaces: &[(usize, bool)]) {
+    for (len, taken) in replaces {
+        assert!(rt; !list.zvl_is_empty());
+        assert_eq!(rt; list.zvl_takes_replace(0, *len), *taken, "{len}");
+    }
 }
 
 #[test]
-fn an_emptied_list_borrows_no_bytes(rt: HostRuntime) {
+fn texts_are_searched_and_changed(rt: HostRuntime) -> Result<(), Fail> {
+    let mut list = <Of<'_, StrULE> as MutableZeroVecLike<'_, StrULE>>::zvl_new();
+    adds_texts(&rt, rt.alloc(), &mut list);
+    finds_texts(&rt, &list);
+    changes_texts(&rt, rt.alloc(), &mut list)?;
+    takes::<StrULE, Of<'_, StrULE>>(
+        &rt,
+        &list,
+        &[(65_535 - 9 - 2, true), (65_535 - 9 - 1, false)],
+    );
+    Ok(())
+}
+
+// The list of one text of so many letters. It has no contract: a proof shall not count them.
+fn one_text(alloc: Global, letters: usize) -> Result<Vec<u8>, Fail> {
+    let mut bytes = Vec::from_slice(alloc, &[1, 0])?;
+    for _ in 0..letters {
+        bytes.push(97)?;
+    }
+    Ok(bytes)
+}
+
+// What a list of an only text of so many letters takes in its place.
+fn only_gives_way(
+    rt: &impl Abort,
+    alloc: Global,
+    letters: usize,
+    replaces: &[(usize, bool)],
+) -> Result<(), Fail> {
+    let bytes = one_text(alloc, letters)?;
+    let list = <Of<'_, StrULE> as MutableZeroVecLike<'_, StrULE>>::zvl_parse(&bytes)?;
+    gives_way::<StrULE, Of<'_, StrULE>>(rt, &list, replaces);
+    Ok(())
+}
+
+#[test]
+fn an_only_text_gives_way(rt: HostRuntime) -> Result<(), Fail> {
     let alloc = rt.alloc();
-    let bytes = [1, 0, 97];
-    let Ok(mut list) = <Of<'_, StrULE> as MutableZeroVecLike<'_, StrULE>>::zvl_parse(&bytes) else {
-        panic!(rt; "the bytes are a list");
-    };
-    assert!(rt; list.zvl_as_borrowed_inner().is_some());
-    list.zvl_clear();
-    assert!(rt; !list.zvl_is_owned());
-    assert!(rt; list.zvl_takes_insert(65_533));
-    assert!(rt; list.zvl_takes_insert(65_534));
-    assert!(rt; !list.zvl_takes_insert(65_535));
-    assert!(rt; !list.zvl_takes_insert(65_536));
+    let short = [
+        (65_533, true),
+        (65_534, false),
+        (65_535, false),
+        (65_536, false),
+    ];
+    only_gives_way(&rt, alloc, 10, &short)?;
+    only_gives_way(&rt, alloc, 65_534, &[(65_534, true), (65_535, false)])
+}
+
+#[test]
+fn an_emptied_list_borrows_no_bytes(rt: HostRuntime) -> Result<(), Fail> {
+    let mut list = <Of<'_, StrULE> as MutableZeroVecLike<'_, StrULE>>::zvl_parse(&[1, 0, 97])?;
+    is_borrowed::<StrULE, Of<'_, StrULE>>(&rt, &list, &[1, 0, 97]);
+    assert!(rt; is_cleared::<StrULE, Of<'_, StrULE>>(&mut list));
+    assert!(rt; !list.is_owned());
+    takes::<StrULE, Of<'_, StrULE>>(
+        &rt,
+        &list,
+        &[
+            (65_533, true),
+            (65_534, true),
+            (65_535, false),
+            (65_536, false),
+        ],
+    );
+    Ok(())
+}
+
+#[test]
+fn data_are_pushed(rt: HostRuntime) {
     let bytes = [1, 2];
     let mut data = <Of<'_, SliceULE<u8>> as MutableZeroVecLike<'_, SliceULE<u8>>>::zvl_new();
-    assert_eq!(rt; data.zvl_push(alloc, &bytes.as_slice()), Ok(()));
+    assert_eq!(rt; data.zvl_push(rt.alloc(), &bytes.as_slice()), Ok(()));
     assert_eq!(rt; data.zvl_as_borrowed().bytes(), [1, 0, 1, 2].as_slice());
 }

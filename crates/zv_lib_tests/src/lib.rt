@@ -1,9 +1,14 @@
-//! Tests of the crates of vectors, containers and maps at concrete kinds, and callers of them.
+//! Tests of the crates of lists, vectors, containers, maps and digests at concrete kinds.
 #![tactic(auto)]
 
-pub mod callers;
 #[cfg(test)]
 mod containers;
+#[cfg(test)]
+mod counted;
+#[cfg(test)]
+mod digests;
+#[cfg(test)]
+mod lists;
 #[cfg(test)]
 mod maps;
 #[cfg(test)]

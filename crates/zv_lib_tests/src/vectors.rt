@@ -3,103 +3,132 @@ use std::alloc::Global;
 use std::process::Abort;
 use std::test::Fail;
 use zv_fixed::ZeroVec;
-use zv_owned::{VarZeroVec16, VarZeroVecOwned, VecError};
-use zv_ule::{Index8, Index16, StrULE};
+use zv_owned::{VarZeroVec, VarZeroVec16, VarZeroVec32, VarZeroVecOwned, VecError};
+use zv_ule::{Index8, Index16, Index32, StrULE, VarZeroVecFormat};
+use zv_var::VarZeroSlice;
 
-type Texts = VarZeroVecOwned<StrULE, Index16>;
+// A change of a list of texts, at a place.
+enum Change<'t> {
+    Insert(usize, &'t str),
+    Replace(usize, &'t str),
+    Remove(usize),
+}
 
 // A list of texts, pushed one after another.
-fn texts(rt: &impl Abort, alloc: Global, items: &[&str]) -> Texts {
-    let mut list = Texts::new(alloc);
+fn texts<F: VarZeroVecFormat>(
+    alloc: Global,
+    items: &[&str],
+) -> Result<VarZeroVecOwned<StrULE, F>, VecError> {
+    let mut list = VarZeroVecOwned::new(alloc);
     for item in items {
-        list.push(item).expect(rt, "memory");
+        list.push(item)?;
     }
-    list
+    Ok(list)
 }
 
-// Puts a text before the one at a place, or at the end.
-fn insert_at(rt: &impl Abort, list: &mut Texts, index: usize, item: &str) {
-    assert!(rt; index <= list.len());
-    list.insert(index, &item).expect(rt, "memory");
-}
-
-// Puts a text in place of the one at a place.
-fn replace_at(rt: &impl Abort, list: &mut Texts, index: usize, item: &str) {
-    assert!(rt; index < list.len());
-    list.replace(index, &item).expect(rt, "memory");
-}
-
-// Takes a text out.
-fn remove_at(rt: &impl Abort, list: &mut Texts, index: usize) {
-    assert!(rt; index < list.len());
-    list.remove_anew(index).expect(rt, "memory");
+// Makes a change, at a place that the list has.
+fn make_change<F: VarZeroVecFormat>(
+    rt: &impl Abort,
+    list: &mut VarZeroVecOwned<StrULE, F>,
+    change: &Change<'_>,
+) -> Result<(), VecError> {
+    match change {
+        Change::Insert(index, item) => {
+            assert!(rt; *index <= list.len());
+            list.insert(*index, item)
+        }
+        Change::Replace(index, item) => {
+            assert!(rt; *index < list.len());
+            list.replace(*index, item)
+        }
+        Change::Remove(index) => {
+            assert!(rt; *index < list.len());
+            Ok(list.remove_anew(*index)?)
+        }
+    }
 }
 
 // The list has these texts.
-fn has(rt: &impl Abort, list: &Texts, items: &[&str]) {
+fn has_texts<F: VarZeroVecFormat>(
+    rt: &impl Abort,
+    list: &VarZeroVecOwned<StrULE, F>,
+    items: &[&str],
+) {
     assert_eq!(rt; list.len(), items.len());
-    for (index, item) in items.iter().enumerate() {
-        let Some(text) = list.get(index) else {
-            panic!(rt; "a text is missing");
-        };
-        assert_eq!(rt; text.as_str(), *item);
+    for (element, item) in list.iter().zip(items.iter()) {
+        assert_eq!(rt; element.as_str(), *item);
     }
+    assert_eq!(rt; list.as_bytes().is_empty(), items.is_empty());
+}
+
+// A list of these texts has others after these changes.
+fn try_changes(
+    rt: &impl Abort,
+    alloc: Global,
+    items: &[&str],
+    changes: &[Change<'_>],
+    after: &[&str],
+) -> Result<(), Fail> {
+    let mut list = texts::<Index16>(alloc, items)?;
+    for each in changes {
+        make_change(rt, &mut list, each)?;
+    }
+    has_texts(rt, &list, after);
+    Ok(())
 }
 
 #[test]
 fn texts_are_inserted(rt: HostRuntime) -> Result<(), Fail> {
-    let alloc = rt.alloc();
-    let mut list = texts(&rt, alloc, &["a"]);
+    let mut list = texts::<Index16>(rt.alloc(), &["a"])?;
     assert_eq!(rt; list.as_bytes(), [1, 0, 97].as_slice());
-    list.insert(0, &"bc").expect(&rt, "memory");
+    list.insert(0, &"bc")?;
     assert_eq!(rt; list.as_bytes(), [2, 0, 2, 0, 98, 99, 97].as_slice());
-    let mut list = texts(&rt, alloc, &[]);
-    for (index, item) in [
-        (0, "1234567890"),
-        (1, "foo3"),
-        (2, "qwertyuiop"),
-        (0, "asdfghjkl;"),
-        (2, ""),
-    ] {
-        insert_at(&rt, &mut list, index, item);
-    }
-    has(
+    try_changes(
         &rt,
-        &list,
+        rt.alloc(),
+        &[],
+        &[
+            Change::Insert(0, "1234567890"),
+            Change::Insert(1, "foo3"),
+            Change::Insert(2, "qwertyuiop"),
+            Change::Insert(0, "asdfghjkl;"),
+            Change::Insert(2, ""),
+        ],
         &["asdfghjkl;", "1234567890", "", "foo3", "qwertyuiop"],
-    );
-    Ok(())
+    )
 }
 
 const SEVEN: [&str; 7] = ["apples", "bananas", "eeples", "", "baneenees", "five", ""];
 
+const REMOVALS: [Change<'static>; 6] = [
+    Change::Remove(0),
+    Change::Remove(2),
+    Change::Remove(4),
+    Change::Remove(0),
+    Change::Remove(1),
+    Change::Remove(1),
+];
+
 #[test]
 fn texts_are_removed(rt: HostRuntime) -> Result<(), Fail> {
-    let mut list = texts(&rt, rt.alloc(), &SEVEN);
-    for index in [0, 2, 4, 0, 1, 1] {
-        remove_at(&rt, &mut list, index);
-    }
-    has(&rt, &list, &["eeples"]);
-    remove_at(&rt, &mut list, 0);
-    assert_eq!(rt; list.as_bytes(), [].as_slice());
-    Ok(())
+    let alloc = rt.alloc();
+    try_changes(&rt, alloc, &SEVEN, &REMOVALS, &["eeples"])?;
+    try_changes(&rt, alloc, &["eeples"], &[Change::Remove(0)], &[])
 }
 
 #[test]
 fn texts_are_replaced(rt: HostRuntime) -> Result<(), Fail> {
-    let mut list = texts(&rt, rt.alloc(), &SEVEN);
-    for (index, item) in [
-        (0, "blablah"),
-        (1, "twily"),
-        (3, "aoeuidhtns"),
-        (6, "0123456789"),
-        (2, ""),
-    ] {
-        replace_at(&rt, &mut list, index, item);
-    }
-    has(
+    try_changes(
         &rt,
-        &list,
+        rt.alloc(),
+        &SEVEN,
+        &[
+            Change::Replace(0, "blablah"),
+            Change::Replace(1, "twily"),
+            Change::Replace(3, "aoeuidhtns"),
+            Change::Replace(6, "0123456789"),
+            Change::Replace(2, ""),
+        ],
         &[
             "blablah",
             "twily",
@@ -109,52 +138,212 @@ fn texts_are_replaced(rt: HostRuntime) -> Result<(), Fail> {
             "five",
             "0123456789",
         ],
-    );
+    )
+}
+
+// An owned list of "a", "b" and "cc" is searched and read.
+fn is_searched<F: VarZeroVecFormat>(rt: &impl Abort, list: &VarZeroVecOwned<StrULE, F>) {
+    for (text, place) in [("a", Ok(0)), ("cc", Ok(2)), ("bb", Err(2))] {
+        assert_eq!(rt; list.binary_search(&text), place);
+    }
+    assert_eq!(rt; list.binary_search_in_range(&"b", 1..3), Some(Ok(0)));
+    assert_eq!(rt; list.binary_search_in_range(&"b", 1..4), None);
+}
+
+#[test]
+fn an_owned_list_is_searched_and_cloned(rt: HostRuntime) -> Result<(), Fail> {
+    let list = texts::<Index16>(rt.alloc(), &["a", "b", "cc"])?;
+    is_searched(&rt, &list);
+    let copy = list.clone()?;
+    has_texts(&rt, &copy, &["a", "b", "cc"]);
     Ok(())
 }
 
 #[test]
 fn a_borrowed_list_is_owned_once_it_changes(rt: HostRuntime) -> Result<(), Fail> {
     let alloc = rt.alloc();
-    let Ok(mut list) = VarZeroVec16::<'_, StrULE>::parse_bytes(&[0, 0, 7, 7]) else {
-        panic!(rt; "a list");
-    };
+    let mut list = VarZeroVec16::<'_, StrULE>::parse_bytes(&[0, 0, 7, 7])?;
     assert!(rt; !list.is_owned());
     assert!(rt; list.as_maybe_borrowed().is_some());
-    list.insert_arg(alloc, 0, &"w").expect(&rt, "memory");
+    list.insert_arg(alloc, 0, &"w")?;
     assert_eq!(rt; list.as_bytes(), [1, 0, 119].as_slice());
     assert!(rt; list.is_owned());
-    list.make_mut(alloc)?.push(&"v").expect(&rt, "memory");
+    list.make_mut(alloc)?.push(&"v")?;
     assert_eq!(rt; list.as_bytes(), [2, 0, 1, 0, 119, 118].as_slice());
+    Ok(())
+}
+
+// A copy of the list has these bytes, and is owned where the list is.
+fn is_cloned<F: VarZeroVecFormat>(
+    rt: &impl Abort,
+    alloc: Global,
+    list: &VarZeroVec<'_, StrULE, F>,
+    bytes: &[u8],
+) -> Result<(), Fail> {
     let copy = list.clone(alloc)?;
+    assert_eq!(rt; copy.as_bytes(), bytes);
+    assert_eq!(rt; copy.is_owned(), list.is_owned());
+    Ok(())
+}
+
+// A list that is borrowed is changed through the owned list that it becomes.
+fn is_made_owned<F: VarZeroVecFormat>(
+    rt: &impl Abort,
+    alloc: Global,
+    list: &mut VarZeroVec<'_, StrULE, F>,
+    item: &str,
+) -> Result<(), Fail> {
+    assert!(rt; !list.is_owned());
+    list.make_mut(alloc)?.push(&item)?;
+    assert!(rt; list.is_owned());
+    Ok(())
+}
+
+#[test]
+fn a_borrowed_list_is_made_owned(rt: HostRuntime) -> Result<(), Fail> {
+    let alloc = rt.alloc();
+    let mut list = VarZeroVec16::<'_, StrULE>::parse_bytes(&[1, 0, 97])?;
+    is_cloned(&rt, alloc, &list, &[1, 0, 97])?;
+    is_made_owned(&rt, alloc, &mut list, "b")?;
+    assert_eq!(rt; list.as_bytes(), [2, 0, 1, 0, 97, 98].as_slice());
+    is_cloned(&rt, alloc, &list, &[2, 0, 1, 0, 97, 98])?;
     list.clear();
     assert!(rt; list.is_owned());
     assert!(rt; list.is_empty());
-    assert_eq!(rt; copy.len(), 2);
     Ok(())
+}
+
+// Adds a text to a list that is owned already.
+fn push_owned<F: VarZeroVecFormat>(
+    list: &mut VarZeroVec<'_, StrULE, F>,
+    item: &str,
+) -> Result<bool, VecError> {
+    match list.as_owned() {
+        Some(owned) => {
+            owned.push(&item)?;
+            Ok(true)
+        }
+        None => Ok(false),
+    }
+}
+
+#[test]
+fn an_owned_list_becomes_a_vector(rt: HostRuntime) -> Result<(), Fail> {
+    let owned = texts::<Index32>(rt.alloc(), &["a"])?;
+    let mut list = VarZeroVec32::from(owned);
+    assert!(rt; push_owned(&mut list, "b")?);
+    assert_eq!(rt;
+        list.as_bytes(),
+        [2, 0, 0, 0, 1, 0, 0, 0, 97, 98].as_slice()
+    );
+    assert_eq!(rt; list.as_components().len(), 2);
+    Ok(())
+}
+
+#[test]
+fn a_view_becomes_a_vector(rt: HostRuntime) -> Result<(), Fail> {
+    let view = VarZeroSlice::<'_, StrULE, Index8>::parse_bytes(&[2, 1, 97, 98])?;
+    let mut list = VarZeroVec::from(view);
+    assert!(rt; !push_owned(&mut list, "c")?);
+    assert_eq!(rt; list.as_bytes(), [2, 1, 97, 98].as_slice());
+    Ok(())
+}
+
+// A text of so many letters. It has no contract: a proof shall not count them.
+fn letters(alloc: Global, count: usize) -> Result<String, Fail> {
+    let mut text = String::new(alloc);
+    for _ in 0..count {
+        text.push('a')?;
+    }
+    Ok(text)
 }
 
 #[test]
 fn a_list_with_fields_of_one_byte_is_full(rt: HostRuntime) -> Result<(), Fail> {
     let alloc = rt.alloc();
-    let mut text = String::new(alloc);
-    for _ in 0..254 {
-        text.push('a')?;
-    }
-    let mut list = VarZeroVecOwned::<StrULE, Index8>::new(alloc);
-    list.push(&text.as_str()).expect(&rt, "memory");
+    let text = letters(alloc, 254)?;
+    let mut list = texts::<Index8>(alloc, &[text.as_str()])?;
     assert_eq!(rt; list.push(&""), Err(VecError::TooLarge));
-    list.replace(0, &"b").expect(&rt, "memory");
+    list.replace(0, &"b")?;
     assert_eq!(rt; list.into_bytes().as_slice(), [1, 98].as_slice());
     Ok(())
+}
+
+// Which lengths the owned list takes beside its own, and in place of its only element.
+fn takes<F: VarZeroVecFormat>(
+    rt: &impl Abort,
+    list: &VarZeroVecOwned<StrULE, F>,
+    inserts: &[(usize, bool)],
+    replaces: &[(usize, bool)],
+) {
+    assert_eq!(rt; list.len(), 1);
+    for (len, taken) in inserts {
+        assert_eq!(rt; list.takes_insert(*len), *taken, "{len}");
+    }
+    for (len, taken) in replaces {
+        assert_eq!(rt; list.takes_replace(0, *len), *taken, "{len}");
+    }
+}
+
+// The same of a vector.
+fn vector_takes<F: VarZeroVecFormat>(
+    rt: &impl Abort,
+    list: &VarZeroVec<'_, StrULE, F>,
+    inserts: &[(usize, bool)],
+    replaces: &[(usize, bool)],
+) {
+    assert_eq!(rt; list.len(), 1);
+    for (len, taken) in inserts {
+        assert_eq!(rt; list.takes_insert(*len), *taken, "{len}");
+    }
+    for (len, taken) in replaces {
+        assert_eq!(rt; list.takes_replace(0, *len), *taken, "{len}");
+    }
+}
+
+// What a list of an element of `len` bytes takes, with fields of two bytes.
+fn only_takes(
+    rt: &impl Abort,
+    alloc: Global,
+    len: usize,
+    inserts: &[(usize, bool)],
+    replaces: &[(usize, bool)],
+) -> Result<(), Fail> {
+    let text = letters(alloc, len)?;
+    let list = texts::<Index16>(alloc, &[text.as_str()])?;
+    takes(rt, &list, inserts, replaces);
+    vector_takes(rt, &VarZeroVec::from(list), inserts, replaces);
+    Ok(())
+}
+
+#[test]
+fn the_size_rule_is_asked(rt: HostRuntime) -> Result<(), Fail> {
+    let alloc = rt.alloc();
+    only_takes(
+        &rt,
+        alloc,
+        10,
+        &[(65_521, true), (65_522, false)],
+        &[
+            (65_533, true),
+            (65_534, false),
+            (65_535, false),
+            (65_536, false),
+        ],
+    )?;
+    only_takes(
+        &rt,
+        alloc,
+        65_534,
+        &[(0, false)],
+        &[(0, true), (65_534, true), (65_535, false)],
+    )
 }
 
 #[test]
 fn numbers_are_changed(rt: HostRuntime) -> Result<(), Fail> {
     let alloc = rt.alloc();
-    let Ok(mut list) = ZeroVec::<'_, u32>::parse_bytes(&[1, 0, 0, 0, 2, 0, 0, 0]) else {
-        panic!(rt; "two numbers");
-    };
+    let mut list = ZeroVec::<'_, u32>::parse_bytes(&[1, 0, 0, 0, 2, 0, 0, 0])?;
     list.insert(alloc, 1, 7)?;
     list.push(alloc, 9)?;
     list.set(alloc, 0, 300)?;

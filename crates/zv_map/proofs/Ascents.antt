@@ -1,42 +1,67 @@
--- Keys that ascend, one more at a time.
-use Rattle.std.proofs.Common.{◌≡◌, ℕ, suc, ◌+◌, ◌-◌, ◌<◌, ◌≤◌, Bool, true, List, [], ◌∷◌, length, take, drop, get_or, slice_range, refl, sym, ◌∙◌, ap, arith, add-one, ◌&&◌}
-use Rattle.std.proofs.Math.Seq.{drop-cons}
-use Rattle.std.specs.Ordering.{is_lt}
+-- Keys that ascend: how a key that is sought compares with them.
+use Rattle.std.proofs.Common.{◌≡◌, ℕ, zero, suc, ◌+◌, ◌<◌, ◌≤◌, true, List, [], ◌∷◌, length, get_or, refl, sym, ◌∙◌, ap, inl, inr, arith, add-one}
+use Rattle.std.proofs.Math.Nat.{eq-or-lt_of_le}
+use Rattle.std.proofs.lemmas.Bool.{and_parts}
+use Rattle.std.proofs.lemmas.List.{length-map}
+use Rattle.std.proofs.lemmas.Map.Keys.{Less-from_sorted, sorted_from_all_adjacent}
+use Rattle.std.specs.Cmp.{IsTotalOrder, alike_right}
+use Rattle.std.specs.List.Sorted.{IsStrictlySortedBy}
+use Rattle.std.specs.Ordering.{is_lt, ordering_index}
 use Rattle.std.specs.declared.cmp.Ordering.{Ordering}
-use Rattle.zv_map.specs.Keys.{Bytes, nth, ascends}
+use Rattle.std.specs.declared.cmp.Ordering.TheVariants.{Less, Equal, Greater}
+use Rattle.zv_ule.specs.Search.{Bytes, Rises, answer_at, ascends, below_next, compared, nth}
+pub use Rattle.zv_ule.proofs.Halving.{range_next}
 
-module _ {A : Type 0} where
-  -- a range from its first element on
-  pub range_next : (xs : List A) (i e : ℕ) (d : A) → i < e → e ≤ length xs → slice_range xs i e ≡ get_or xs i d ∷ slice_range xs (i + 1) e
-  range_next xs i e d h w =
-      let s : e - i ≡ suc (e - (i + 1)) = omega arith in
-      let c : drop i xs ≡ get_or xs i d ∷ drop (suc i) xs = drop-cons xs i d (omega arith) in
-      ap (λ (ys : List A). take (e - i) ys) c ∙ (ap (λ (n : ℕ). take n (get_or xs i d ∷ drop (suc i) xs)) s ∙ ap (λ (j : ℕ). get_or xs i d ∷ take (e - (i + 1)) (drop j xs)) (sym (add-one i)))
+less_of : (o : Ordering) → is_lt o ≡ true → o ≡ Less
+less_of Less e = refl
+less_of Equal e = cc
+less_of Greater e = cc
 
-  pub range_none : (xs : List A) (i e : ℕ) → i ≡ e → slice_range xs i e ≡ []
-  range_none xs i e h =
-      let n : e - i ≡ 0 = omega (arith, h) in
-      ap (λ (k : ℕ). take k (drop i xs)) n
+index_top : (r : Ordering) → ordering_index r ≤ 2
+index_top Less = omega arith
+index_top Equal = omega arith
+index_top Greater = omega arith
 
-module _ (order : Bytes → Bytes → Ordering) (xs : List Bytes) where
-  -- one pair of neighbours more
-  pub ascends_next : (i e : ℕ) → i + 1 < e → e ≤ length xs → ascends order (slice_range xs i e) ≡ (is_lt (order (nth xs i) (nth xs (i + 1))) && ascends order (slice_range xs (i + 1) e))
-  ascends_next i e h w =
-      let a = range_next xs i e [] (omega arith) w in
-      let b = range_next xs (i + 1) e [] h w in
-      ap (ascends order) (a ∙ ap (λ (ys : List Bytes). nth xs i ∷ ys) b) ∙ ap (λ (ys : List Bytes). is_lt (order (nth xs i) (nth xs (i + 1))) && ascends order ys) (sym b)
+neighbours : (order : Bytes → Bytes → Ordering) (x : Bytes) (xs : List Bytes) → below_next order x xs ≡ true →
+    (k : ℕ) → k + 1 < length (x ∷ xs) → order (get_or (x ∷ xs) k []) (get_or (x ∷ xs) (suc k) []) ≡ Less
+neighbours order x [] e k h = absurd (omega arith)
+neighbours order x (y ∷ ys) e zero h = less_of (order x y) (and_parts (is_lt (order x y)) (below_next order y ys) e).0
+neighbours order x (y ∷ ys) e (suc k) h = neighbours order y ys (and_parts (is_lt (order x y)) (below_next order y ys) e).1 k (omega arith)
 
-  -- p, i, q being i - 1, i and i
-  pub ascends_step : (p i q e : ℕ) (r : Bool) → p + 1 ≡ i → q ≡ i → i < e → e ≤ length xs → r ≡ is_lt (order (nth xs p) (nth xs i)) → ascends order (slice_range xs p e) ≡ (r && ascends order (slice_range xs q e))
-  ascends_step p i q e r a b h w f =
-      ascends_next p e (omega arith) w ∙ rw (a, b, f) refl
+compared_at : (order : Bytes → Bytes → Ordering) (key : Bytes) (xs : List Bytes) (i : ℕ) → i < length xs →
+    answer_at (compared order xs key) i ≡ order (nth xs i) key
+compared_at order key [] i h = absurd (omega arith)
+compared_at order key (x ∷ xs) zero h = refl
+compared_at order key (x ∷ xs) (suc i) h = compared_at order key xs i (omega arith)
 
-  pub ascends_one : (i e : ℕ) → e ≤ i + 1 → i < e → e ≤ length xs → true ≡ ascends order (slice_range xs i e)
-  ascends_one i e h k w =
-      let a = range_next xs i e [] (omega arith) w in
-      let n : e - (i + 1) ≡ 0 = omega arith in
-      let s : slice_range xs (i + 1) e ≡ [] = ap (λ (j : ℕ). take j (drop (i + 1) xs)) n in
-      sym (ap (ascends order) (a ∙ ap (λ (ys : List Bytes). nth xs i ∷ ys) s))
+module _ {order : Bytes → Bytes → Ordering} (total : IsTotalOrder order) where
+  pub sorted_from_ascends : (xs : List Bytes) → ascends order xs ≡ true → IsStrictlySortedBy order xs
+  sorted_from_ascends [] e = sorted_from_all_adjacent total [] [] (λ k h. absurd (omega arith))
+  sorted_from_ascends (x ∷ xs) e = sorted_from_all_adjacent total (x ∷ xs) [] (λ k h. rw add-one (neighbours order x xs e k h))
 
-  pub ascends_none : (i e : ℕ) → i ≡ e → true ≡ ascends order (slice_range xs i e)
-  ascends_none i e h = sym (ap (ascends order) (range_none xs i e h))
+  -- what is below y compares with the key no higher than y
+  index_by : (key x y : Bytes) (r : Ordering) → order x y ≡ Less → order y key ≡ r → ordering_index (order x key) ≤ ordering_index r
+  index_by key x y Less e h = let t = total.trans x y key e h in omega (arith, ap ordering_index t)
+  index_by key x y Equal e h =
+      let t : order x key ≡ Less = sym (alike_right total y key x h) ∙ e in
+      omega (arith, ap ordering_index t)
+  index_by key x y Greater e h = index_top (order x key)
+
+  rises_by : (key : Bytes) (xs : List Bytes) → IsStrictlySortedBy order xs → (i j : ℕ) → i ≤ j → j < length xs →
+      ordering_index (order (nth xs i) key) ≤ ordering_index (order (nth xs j) key)
+  rises_by key xs up i j a b = elim (eq-or-lt_of_le a) [
+    | inl e ↦ omega (arith, ap (λ n. ordering_index (order (nth xs n) key)) e)
+    | inr l ↦ index_by key (nth xs i) (nth xs j) (order (nth xs j) key) (Less-from_sorted order xs i j [] up l b) refl
+  ]
+
+  -- in a list that ascends, what a key compares with rises
+  pub rises : (xs : List Bytes) (key : Bytes) → ascends order xs ≡ true → Rises (compared order xs key)
+  rises xs key up i j a b =
+      let l : length (compared order xs key) ≡ length xs = length-map xs (λ x. order x key) in
+      let t = rises_by key xs (sorted_from_ascends xs up) i j a (omega (arith, l, b)) in
+      omega (
+        arith,
+        t,
+        ap ordering_index (compared_at order key xs i (omega (arith, l, a, b))),
+        ap ordering_index (compared_at order key xs j (omega (arith, l, b))),
+      )

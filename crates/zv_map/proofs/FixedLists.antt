@@ -1,11 +1,9 @@
 -- Bytes that are chunks of one width, seen as the elements of a kind.
-use Rattle.std.proofs.Common.{◌≡◌, ℕ, zero, suc, ◌*◌, ◌/◌, ◌%◌, ◌≤◌, Bool, true, List, ◌++◌, length, take, drop, Option, None, is_none, IsTrue, refl, ap, sym, ◌∙◌, arith, length-drop, length-take-le}
-use Rattle.std.specs.List.{concat}
+use Rattle.std.proofs.Common.{◌≡◌, ℕ, zero, suc, ◌*◌, ◌/◌, ◌%◌, ◌≤◌, Bool, true, List, length, take, drop, Option, None, is_none, IsTrue, refl, ap, sym}
+use Rattle.std.proofs.Common.{◌∙◌, arith, length-drop, length-take-le}
 use Rattle.std.proofs.Math.Nat.{suc-mul, div-mul-le_self}
 use Rattle.std.proofs.lemmas.Grind.{common_steps}
 use Rattle.std.proofs.lemmas.Bool.Decides.{nat_tests}
-use Rattle.std.proofs.lemmas.List.{take-append-drop, nil_from_length}
-use Rattle.std.proofs.lemmas.Nat.{div-add-mod'}
 use Rattle.zv_ule.specs.Chunks.{chunks, chunks_of, first_fault, chunks_fault}
 use Rattle.zv_ule.specs.Fixed.{is_width}
 use Rattle.zv_ule.specs.Kinds.{IsFixedKind}
@@ -53,15 +51,3 @@ module _ {usable : Bool} {fault f : List ℕ → Option UleError} {ty : TyName} 
   fault_fixed b h =
       let both : (length b % w ≡ 0) × (is_none (first_fault fault (chunks_of w b)) ≡ true) = grind (arith, nat_tests, common_steps) in
       whole_fault ty w f b both.0 ∙ chunks_good (length b / w) b (none_is _ both.1)
-
--- the chunks one after another are the bytes
-concat_chunks : (w n : ℕ) (b : List ℕ) → length b ≡ n * w → concat (chunks w n b) ≡ b
-concat_chunks w zero b long = sym (nil_from_length b (omega (arith, long)))
-concat_chunks w (suc n) b long =
-    let rest : length (drop w b) ≡ n * w = omega (arith, length-drop w b, long, suc-mul n w) in
-    ap (λ l. take w b ++ l) (concat_chunks w n (drop w b) rest) ∙ take-append-drop w b
-
-pub joined_again : (ty : TyName) (w : ℕ) (f : List ℕ → Option UleError) (b : List ℕ) → chunks_fault ty w f b ≡ None → concat (chunks_of w b) ≡ b
-joined_again ty w f b h =
-    let p = whole_if ty w f b h in
-    concat_chunks w (length b / w) b (omega (arith, div-add-mod' (length b) w, p.0))

@@ -1,4 +1,4 @@
 pub mod Ascents
-pub mod Predicates
 pub mod FixedLists
+pub mod Places
 pub mod VariableLists

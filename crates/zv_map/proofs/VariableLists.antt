@@ -1,14 +1,15 @@
--- Bytes in the format with fields of two bytes, and the size rule by their length.
+-- Bytes in a format with fields of w bytes.
 use Rattle.std.proofs.Common.{◌≡◌, ℕ, ◌<◌, List, [], ◌∷◌, length, Option, None, arith}
 use Rattle.zv_ule.specs.Bytes.{IsBytes}
 use Rattle.zv_ule.specs.declared.error.UleError.{UleError}
 use Rattle.zv_var.specs.Format.{Part, elements, enc, list_fault}
 use Rattle.zv_var.proofs.Read.{Part_from_fault}
 
-part_is : (w : ℕ) (b : List ℕ) (xs : List (List ℕ)) → Part w b xs → 0 < length xs → b ≡ enc w xs
-part_is w b [] p h = absurd (omega (arith, h))
-part_is w b (x ∷ xs) p h = p.1
+encoding_from_Part : (w : ℕ) (b : List ℕ) (xs : List (List ℕ)) → Part w b xs → 0 < length xs → b ≡ enc w xs
+encoding_from_Part w b [] p h = absurd (omega (arith, h))
+encoding_from_Part w b (x ∷ xs) p h = p.1
 
 -- bytes that spell a list that isn't empty are its encoding
-pub spelled : (w : ℕ) (K : List ℕ → Option UleError) (b : List ℕ) → 0 < w → IsBytes b → list_fault w K b ≡ None → 0 < length (elements w b) → b ≡ enc w (elements w b)
-spelled w K b pos each sound some = part_is w b (elements w b) (Part_from_fault w K b pos each sound) some
+pub encoding_is : (w : ℕ) (K : List ℕ → Option UleError) (b : List ℕ) → 0 < w → IsBytes b → list_fault w K b ≡ None →
+    0 < length (elements w b) → b ≡ enc w (elements w b)
+encoding_is w K b pos each sound some = encoding_from_Part w b (elements w b) (Part_from_fault w K b pos each sound) some

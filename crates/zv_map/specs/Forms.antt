@@ -1,5 +1,5 @@
 -- The forms in which bytes spell a list.
-use Rattle.std.specs.Prelude.{ℕ, ◌%◌, ◌==◌, Bool, true, false, ◌&&◌, List, length, Option, is_none}
+use Rattle.std.specs.Prelude.{ℕ, ◌%◌, ◌==◌, Bool, false, ◌&&◌, List, length, Option, is_none}
 use Rattle.zv_ule.specs.Chunks.{chunks_of, first_fault}
 use Rattle.zv_ule.specs.Fixed.{is_width}
 use Rattle.zv_ule.specs.declared.error.UleError.{UleError}
@@ -15,7 +15,9 @@ list_in Index32 bytes = elements 4 bytes
 
 -- whether bytes spell a list of elements without a fault
 abbrev pub spells_in : Form → (List ℕ → Option UleError) → List ℕ → Bool
-spells_in (Fixed width) fault bytes = is_width width && (length bytes % width == 0 && is_none (first_fault fault (chunks_of width bytes)))
+spells_in (Fixed width) fault bytes =
+    is_width width
+    && (length bytes % width == 0 && is_none (first_fault fault (chunks_of width bytes)))
 spells_in Index16 fault bytes = is_none (list_fault 2 fault bytes)
 spells_in Index32 fault bytes = is_none (list_fault 4 fault bytes)
 
@@ -25,8 +27,8 @@ is_fixed width (Fixed given) = given == width
 is_fixed width Index16 = false
 is_fixed width Index32 = false
 
--- whether the form is that of fields of two bytes
-abbrev pub is_index16 : Form → Bool
-is_index16 (Fixed width) = false
-is_index16 Index16 = true
-is_index16 Index32 = false
+-- the width of a field in bytes, and 0 where the form has no fields
+abbrev pub field_width : Form → ℕ
+field_width (Fixed width) = 0
+field_width Index16 = 2
+field_width Index32 = 4

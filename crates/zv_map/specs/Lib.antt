@@ -1,4 +1,6 @@
 pub mod Forms
 pub mod Keys
+pub mod Laws
+pub mod Maps
 pub mod Refusals
 pub mod Views

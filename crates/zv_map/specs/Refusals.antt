@@ -1,7 +1,8 @@
 -- When a change is refused.
 use Rattle.std.specs.Prelude.{◌≡◌, Bool, true, false, Result, Ok, Err}
 use Rattle.zv_owned.specs.declared.error.VecError.{VecError}
-use Rattle.zv_owned.specs.declared.error.VecError.TheVariants.{TooLarge as VecTooLarge, Memory as VecMemory}
+use Rattle.zv_owned.specs.declared.error.VecError.TheVariants.{TooLarge as VecTooLarge}
+use Rattle.zv_owned.specs.declared.error.VecError.TheVariants.{Memory as VecMemory}
 use Rattle.zv_map.specs.declared.error.MapError.{MapError}
 use Rattle.zv_map.specs.declared.error.MapError.TheVariants.{TooLarge, Memory}
 

@@ -1,5 +1,5 @@
 // The container of elements of one width.
-ghost use Rattle.std.specs.Prelude.{◌≡◌, ℕ, ◌<◌, List, [], length, IsTrue, true};
+ghost use Rattle.std.specs.Prelude.{◌≡◌, ℕ, ◌<◌, List, [], length, IsTrue, refl, true};
 ghost use Rattle.std.specs.List.{concat};
 ghost use Rattle.zv_ule.specs.Chunks.{chunks_fault, chunks_of};
 ghost use Rattle.zv_map.specs.Forms.{is_fixed};
@@ -12,12 +12,7 @@ use crate::view::{Form, KvSlice, RawView};
 use std::alloc::Global;
 use zv_fixed::slice::ZeroSlice;
 use zv_fixed::vector::ZeroVec;
-use zv_ule::NoMemory;
-use zv_ule::argument::ZvArg;
-use zv_ule::chunks::chunk_at;
-use zv_ule::element::{AsULE, ULE, load};
-use zv_ule::error::UleError;
-use zv_ule::view::VarRef;
+use zv_ule::{AsULE, NoMemory, ULE, UleError, VarRef, ZvArg, chunk_at, load};
 
 impl<'a, T: AsULE> ZeroVecLike<T> for ZeroVec<'a, T> {
     ghost use Rattle.zv_map.specs.Views.{bytes_of, list_of};
@@ -72,6 +67,7 @@ fn value_at<T: AsULE>(list: &ZeroVec<'_, T>, index: usize) -> T
 impl<'a, T: AsULE> ZvContainer<T> for ZeroVec<'a, T> {
     ghost use Rattle.std.proofs.Common.{arith};
     ghost use Rattle.zv_owned.proofs.Pushes.{always_taken};
+    ghost use Rattle.zv_map.specs.Laws.{chunks_read, chunks_sound, is_fixed_self};
 
     type OwnedType = T;
 
@@ -94,14 +90,6 @@ impl<'a, T: AsULE> ZvContainer<T> for ZeroVec<'a, T> {
     ghost parse_list = { chunks_of T.ULE.width };
 
     ghost spelling = { concat };
-
-    ghost small_field = { Prim.omega arith };
-
-    ghost ready_owned = { λ v h. h };
-
-    ghost owned_ready = { λ v h _. h };
-
-    ghost any_order = { λ xs ys _ _. always_taken [] ys };
 
     #[inline]
     fn zvl_is_owned(&self) -> bool {
@@ -132,6 +120,22 @@ impl<'a, T: AsULE> ZvContainer<T> for ZeroVec<'a, T> {
     fn zvl_clear(&mut self) {
         self.remove_all();
     }
+
+    ghost small_field = { Prim.omega arith };
+
+    ghost ready_owned = { λ v h. h };
+
+    ghost owned_ready = { λ v h _. h };
+
+    ghost any_order = { λ xs ys _ _. always_taken [] ys };
+
+    ghost own_form = { λ _. is_fixed_self T.ULE.width };
+
+    ghost spelling_of_none = { refl };
+
+    ghost spelling_sound = { λ bytes _. chunks_sound T.ULE.TY T.ULE.width T.ULE.chunk_fault bytes };
+
+    ghost spelling_reads = { λ bytes _. chunks_read T.ULE.TY T.ULE.width T.ULE.chunk_fault bytes };
 }
 
 impl<'a, T: AsULE> MutableZeroVecLike<'a, T> for ZeroVec<'a, T> {

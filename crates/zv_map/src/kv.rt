@@ -4,11 +4,7 @@ use crate::vecs::ZeroMapKV;
 use std::num::{NonZeroI8, NonZeroU8};
 use zv_fixed::vector::ZeroVec;
 use zv_owned::vector::VarZeroVec;
-use zv_ule::element::{AsULE, ULE};
-use zv_ule::format::Index16;
-use zv_ule::niche::{NicheBytes, NichedOption};
-use zv_ule::slices::SliceULE;
-use zv_ule::text::StrULE;
+use zv_ule::{AsULE, Index16, NicheBytes, NichedOption, SliceULE, StrULE, ULE};
 
 impl<'a> ZeroMapKV<'a> for u8 {
     type Container = ZeroVec<'a, u8>;

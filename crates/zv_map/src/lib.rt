@@ -1,24 +1,26 @@
 //! Lists of elements of one kind, however they are kept: the containers that maps are made of.
 //!
 //! A kind names its container by [`ZeroMapKV`]: a [`ZeroVec`](zv_fixed::ZeroVec) where the elements
-//! have one width, a [`VarZeroVec`](zv_owned::VarZeroVec) where they have any length. A map knows its
-//! containers through the traits alone: [`ZeroVecLike`] to read, [`ZeroVecSearch`] and
-//! [`ZeroVecSearchBy`] to search, [`ZvContainer`] for what a container means,
-//! [`MutableZeroVecLike`] to change. A [`KvSlice`] views the list of any of them.
+//! have one width, a [`VarZeroVec`](zv_owned::VarZeroVec) in [`Index16`](zv_ule::Index16) where
+//! they have any length. A map knows its containers through the traits alone: [`ZeroVecLike`] to
+//! read, [`ZeroVecSearch`] and [`ZeroVecSearchBy`] to search, [`ZvContainer`] for what a container
+//! means, [`MutableZeroVecLike`] to change. A `VarZeroVec` has them in each format that a view can
+//! name ([`MapForm`]). A [`KvSlice`] views the list of any of them.
 #![tactic(auto)]
 
 pub mod error;
 mod fixed;
 mod kv;
-mod order;
+pub mod laws;
 pub mod predicate;
 pub mod search;
-mod variable;
+pub mod variable;
 pub mod vecs;
 pub mod view;
 
 pub use error::{MapError, TooLarge};
 pub use predicate::ZeroVecSearchBy;
 pub use search::ZeroVecSearch;
+pub use variable::MapForm;
 pub use vecs::{MutableZeroVecLike, ZeroMapKV, ZeroVecLike, ZvContainer};
 pub use view::{Form, KvSlice, RawView};

@@ -1,36 +1,91 @@
 // The container of elements of any length.
-ghost use Rattle.std.specs.Prelude.{◌≡◌, ℕ, ◌<◌, List, [], length, IsTrue, IfOk};
+ghost use Rattle.std.specs.Prelude.{◌≡◌, ℕ, ◌==◌, ◌<◌, List, [], length, refl, None, IsTrue, IfOk};
 ghost use Rattle.zv_ule.specs.Views.{element_of};
 ghost use Rattle.zv_var.specs.Format.{elements, enc, list_fault};
 ghost use Rattle.zv_var.specs.Nested.{slice_fault};
+ghost use Rattle.zv_var.specs.Views.{bytes_of as slice_bytes, list_of as slice_list};
 ghost use Rattle.zv_owned.specs.Size.{takes_insert, takes_replace};
-ghost use Rattle.zv_map.specs.Forms.{is_index16};
-ghost use Rattle.zv_map.specs.Keys.{nth};
 ghost use Rattle.zv_owned.specs.Vectors.{vector_list, vector_bytes, vector_owned, vector_spare};
+ghost use Rattle.zv_map.specs.Forms.{field_width, list_in, spells_in};
+ghost use Rattle.zv_map.specs.Keys.{nth};
+ghost use Rattle.zv_map.specs.declared.view.Form.{Form};
 ghost use Rattle.zv_map.specs.declared.view.Form.TheVariants.{Index16 as FormIndex16};
+ghost use Rattle.zv_map.specs.declared.view.Form.TheVariants.{Index32 as FormIndex32};
 
 use crate::error::MapError;
+use crate::search::Indexed;
 use crate::vecs::{MutableZeroVecLike, ZeroVecLike, ZvContainer};
 use crate::view::{Form, KvSlice, RawView};
 use std::alloc::Global;
 use zv_owned::vector::VarZeroVec;
-use zv_ule::NoMemory;
-use zv_ule::argument::ZvArg;
-use zv_ule::boxes::VarBox;
-use zv_ule::error::UleError;
-use zv_ule::format::Index16;
-use zv_ule::kind::ZvKind;
-use zv_ule::view::VarRef;
+use zv_ule::search::IndexedList;
+use zv_ule::{
+    Index16, Index32, NoMemory, UleError, VarBox, VarRef, VarZeroVecFormat, ZvArg, ZvKind,
+};
 use zv_var::slice::VarZeroSlice;
 
-impl<'a, T: ZvKind> ZeroVecLike<T> for VarZeroVec<'a, T, Index16> {
+/// A format whose lists are viewed in a form of their own.
+pub trait MapForm: VarZeroVecFormat {
+    /// The form of lists in the format.
+    const FORM: Form;
+
+    ghost FORM: { Form };
+
+    /// The form's fields are as wide as the format's.
+    ghost form_width: { field_width FORM ≡ Self.W };
+}
+
+impl MapForm for Index16 {
+    const FORM: Form = Form::Index16;
+
+    ghost FORM = { FormIndex16 };
+
+    ghost form_width = { refl };
+}
+
+impl MapForm for Index32 {
+    const FORM: Form = Form::Index32;
+
+    ghost FORM = { FormIndex32 };
+
+    ghost form_width = { refl };
+}
+
+/// The bytes of a list in the format, with its form.
+#[inline]
+fn raw_view<'b, T: ZvKind, F: MapForm>(list: VarZeroSlice<'b, T, F>) -> RawView<'b>
+    ensures bytes { result.bytes.now ≡ slice_bytes list.entry }
+    ensures form { result.form ≡ F.FORM }
+    ensures list { list_in result.form result.bytes.now ≡ slice_list list.entry }
+    ensures usable { IsTrue T.usable }
+    ensures spells { IsTrue (spells_in result.form T.fault result.bytes.now) }
+{
+    RawView {
+        bytes: list.as_bytes(),
+        form: F::FORM,
+    }
+}
+
+/// The list in the format of a view whose form is the format's.
+#[inline]
+fn slice_of<'b, T: ZvKind, F: MapForm>(view: RawView<'b>) -> VarZeroSlice<'b, T, F>
+    requires usable { IsTrue T.usable }
+    requires form { field_width view.form ≡ F.W }
+    requires spells { IsTrue (spells_in view.form T.fault view.bytes.now) }
+    ensures bytes { slice_bytes result ≡ view.entry.bytes.now }
+    ensures list { slice_list result ≡ list_in view.entry.form view.entry.bytes.now }
+{
+    VarZeroSlice::of_valid(view.bytes)
+}
+
+impl<'a, T: ZvKind, F: MapForm> ZeroVecLike<T> for VarZeroVec<'a, T, F> {
     ghost use Rattle.zv_map.specs.Views.{bytes_of, list_of};
 
     ghost list = { vector_list };
 
     ghost bytes = { vector_bytes };
 
-    ghost form = { λ v. FormIndex16 };
+    ghost form = { λ _. F.FORM };
 
     #[inline]
     fn zvl_new_borrowed() -> KvSlice<'static, T>
@@ -43,11 +98,7 @@ impl<'a, T: ZvKind> ZeroVecLike<T> for VarZeroVec<'a, T, Index16> {
 
     #[inline]
     fn zvl_as_borrowed(&self) -> KvSlice<'_, T> {
-        let raw = RawView {
-            bytes: self.as_slice().as_bytes(),
-            form: Form::Index16,
-        };
-        KvSlice::of_valid(raw)
+        KvSlice::of_valid(raw_view(self.as_slice()))
     }
 
     #[inline]
@@ -63,33 +114,30 @@ impl<'a, T: ZvKind> ZeroVecLike<T> for VarZeroVec<'a, T, Index16> {
 
 /// The bytes of a list that has an element, which are all that it is written as.
 #[inline]
-fn written<T: ZvKind>(bytes: &[u8]) -> &[u8]
-    requires sound { list_fault 2 T.fault bytes.now ≡ None }
-    requires some { 0 < length (elements 2 bytes.now) }
-    ensures { result.now ≡ enc 2 (elements 2 bytes.now) }
+fn encoding<T: ZvKind, F: MapForm>(bytes: &[u8]) -> &[u8]
+    requires sound { list_fault F.W T.fault bytes.now ≡ None }
+    requires some { 0 < length (elements F.W bytes.now) }
+    ensures { result.now ≡ enc F.W (elements F.W bytes.now) }
 {
     bytes
 }
 
 /// A copy of the element at a place, in a box of its own.
 #[inline]
-fn boxed_at<T: ZvKind>(
-    list: &VarZeroVec<'_, T, Index16>,
+fn boxed_at<T: ZvKind, F: MapForm>(
+    list: &VarZeroVec<'_, T, F>,
     alloc: Global,
     index: usize,
 ) -> Result<VarBox<T>, NoMemory>
     requires { index < length (vector_list list.now) }
     ensures { IfOk result (λ b. b ≡ nth (vector_list list.now) index) }
 {
-    match list.get(index) {
-        Some(element) => element.to_boxed(alloc),
-        None => unreachable!(),
-    }
+    Indexed::new(list).element_at(index).to_boxed(alloc)
 }
 
-impl<'a, T: ZvKind> ZvContainer<T> for VarZeroVec<'a, T, Index16> {
-    ghost use Rattle.std.proofs.Common.{arith};
+impl<'a, T: ZvKind, F: MapForm> ZvContainer<T> for VarZeroVec<'a, T, F> {
     ghost use Rattle.zv_owned.proofs.Pushes.{any_order};
+    ghost use Rattle.zv_map.specs.Laws.{encoding_reads, encoding_sound, form_has};
 
     type OwnedType = VarBox<T>;
 
@@ -99,27 +147,19 @@ impl<'a, T: ZvKind> ZvContainer<T> for VarZeroVec<'a, T, Index16> {
 
     ghost ready = { vector_owned };
 
-    ghost field = { 2 };
+    ghost field = { F.W };
 
-    ghost takes_insert = { takes_insert 2 };
+    ghost takes_insert = { takes_insert F.W };
 
-    ghost takes_replace = { λ xs i n. takes_replace 2 xs (length (nth xs i)) n };
+    ghost takes_replace = { λ xs i n. takes_replace F.W xs (length (nth xs i)) n };
 
-    ghost has_form = { is_index16 };
+    ghost has_form = { λ form. field_width form == F.W };
 
-    ghost parse_fault = { λ bytes. slice_fault (list_fault 2 T.fault bytes) };
+    ghost parse_fault = { λ bytes. slice_fault (list_fault F.W T.fault bytes) };
 
-    ghost parse_list = { elements 2 };
+    ghost parse_list = { elements F.W };
 
-    ghost spelling = { enc 2 };
-
-    ghost small_field = { Prim.omega arith };
-
-    ghost ready_owned = { λ v h. h };
-
-    ghost owned_ready = { λ v h _. h };
-
-    ghost any_order = { any_order 2 (Prim.omega arith) (Prim.omega arith) };
+    ghost spelling = { enc F.W };
 
     #[inline]
     fn zvl_is_owned(&self) -> bool {
@@ -136,7 +176,7 @@ impl<'a, T: ZvKind> ZvContainer<T> for VarZeroVec<'a, T, Index16> {
         if self.is_empty() {
             &[]
         } else {
-            written::<T>(self.as_slice().as_bytes())
+            encoding::<T, F>(self.as_slice().as_bytes())
         }
     }
 
@@ -154,9 +194,25 @@ impl<'a, T: ZvKind> ZvContainer<T> for VarZeroVec<'a, T, Index16> {
     fn zvl_clear(&mut self) {
         self.clear();
     }
+
+    ghost small_field = { F.width_small };
+
+    ghost ready_owned = { λ v h. h };
+
+    ghost owned_ready = { λ v h _. h };
+
+    ghost any_order = { any_order F.W F.width_positive F.field_small };
+
+    ghost own_form = { λ _. form_has F.FORM F.W F.form_width };
+
+    ghost spelling_of_none = { refl };
+
+    ghost spelling_sound = { λ bytes. encoding_sound F.W T.fault bytes F.width_positive };
+
+    ghost spelling_reads = { λ bytes. encoding_reads F.W T.fault bytes F.width_positive };
 }
 
-impl<'a, T: ZvKind> MutableZeroVecLike<'a, T> for VarZeroVec<'a, T, Index16> {
+impl<'a, T: ZvKind, F: MapForm> MutableZeroVecLike<'a, T> for VarZeroVec<'a, T, F> {
     #[inline]
     fn zvl_new() -> Self {
         VarZeroVec::new()
@@ -172,19 +228,16 @@ impl<'a, T: ZvKind> MutableZeroVecLike<'a, T> for VarZeroVec<'a, T, Index16> {
         if b.bytes.is_empty() {
             return Some(VarZeroVec::new());
         }
-        match b.form {
-            Form::Index16 => Some(VarZeroVec::new_borrowed(VarZeroSlice::of_valid(b.bytes))),
-            _ => None,
+        if b.form.field_width() != F::W {
+            return None;
         }
+        Some(VarZeroVec::new_borrowed(slice_of(b)))
     }
 
     #[inline]
     fn zvl_as_borrowed_inner(&self) -> Option<RawView<'a>> {
         let view = self.as_maybe_borrowed()?;
-        Some(RawView {
-            bytes: view.as_bytes(),
-            form: Form::Index16,
-        })
+        Some(raw_view(view))
     }
 
     #[inline]

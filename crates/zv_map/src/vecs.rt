@@ -1,8 +1,11 @@
 // What the containers of maps are.
-ghost use Rattle.std.specs.Prelude.{◌≡◌, ℕ, ◌==◌, ◌||◌, ◌+◌, ◌^◌, ◌<◌, ◌≤◌, List, [], ◌∷◌, ◌++◌, length, Option, is_some, IfSome, Bool, true, false, not, IsTrue, IfOk, OnOk, OnErr, set, IsPermutation};
+ghost use Rattle.std.specs.Prelude.{◌≡◌, ℕ, ◌==◌, ◌||◌, ◌+◌, ◌^◌, ◌<◌, ◌≤◌, List, [], ◌∷◌, ◌++◌};
+ghost use Rattle.std.specs.Prelude.{length, Option, None, is_some, IfSome, Bool, true, false, not};
+ghost use Rattle.std.specs.Prelude.{IsTrue, IfOk, OnOk, OnErr, set, IsPermutation};
 ghost use Rattle.std.specs.List.{insert, remove, slice_get};
 ghost use Rattle.std.specs.Option.{option_map};
 ghost use Rattle.std.specs.Result.{result_err};
+ghost use Rattle.zv_ule.specs.Bytes.{IsBytes};
 ghost use Rattle.zv_ule.specs.Views.{element_of};
 ghost use Rattle.zv_ule.specs.declared.error.UleError.{UleError};
 ghost use Rattle.zv_owned.specs.Size.{takes_pushes};
@@ -15,11 +18,7 @@ ghost use Rattle.zv_map.specs.declared.view.Form.{Form};
 use crate::error::MapError;
 use crate::view::{KvSlice, RawView};
 use std::alloc::Global;
-use zv_ule::NoMemory;
-use zv_ule::argument::ZvArg;
-use zv_ule::error::UleError;
-use zv_ule::kind::ZvKind;
-use zv_ule::view::VarRef;
+use zv_ule::{NoMemory, UleError, VarRef, ZvArg, ZvKind};
 
 /// A list of elements of a kind that is read in place.
 pub trait ZeroVecLike<T: ZvKind>: Sized {
@@ -63,6 +62,8 @@ pub trait ZeroVecLike<T: ZvKind>: Sized {
 
 /// A container that borrows or owns the bytes of its list. What it means for contracts stands here,
 /// and its changes in [`MutableZeroVecLike`]: a trait with a lifetime can't have meanings.
+///
+/// The meanings are data that each container gives, and the laws after the calls tie them.
 pub trait ZvContainer<T: ZvKind>: ZeroVecLike<T> {
     /// An element that was taken out: the value where elements have one width, a box else.
     type OwnedType: ZvArg<T> + Drop;
@@ -73,16 +74,19 @@ pub trait ZvContainer<T: ZvKind>: ZeroVecLike<T> {
     /// Whether it owns its bytes.
     ghost owned: { Self → Bool };
 
-    /// Whether a change may come that takes no memory.
+    /// Whether it may be changed without memory: it owns its bytes, and has whatever else such a
+    /// change writes into beside the spare bytes.
     ghost ready: { Self → Bool };
 
-    /// How many bytes a new element takes beside its own.
+    /// How many bytes an element takes beside its own: the width of a field, and 0 where there are
+    /// no fields.
     ghost field: { ℕ };
 
-    /// Whether the list takes one element more, of so many bytes.
+    /// The size rule: whether the list takes one element more, of so many bytes.
     ghost takes_insert: { List (List ℕ) → ℕ → Bool };
 
-    /// Whether the list takes an element of so many bytes in the place of the one there.
+    /// The size rule: whether the list takes an element of so many bytes in the place of the one
+    /// there.
     ghost takes_replace: { List (List ℕ) → ℕ → ℕ → Bool };
 
     /// Whether bytes in the form can be the container's.
@@ -129,18 +133,32 @@ pub trait ZvContainer<T: ZvKind>: ZeroVecLike<T> {
         ensures owned { owned self.new ≡ owned self.old }
         ensures spare { spare self.old ≤ spare self.new };
 
-    /// A field is at most four bytes.
+    /// A field is small: at most four bytes.
     ghost small_field: { field ≤ 4 };
 
-    /// A container that is ready owns its bytes.
+    /// What is ready is owned: a container that may be changed without memory owns its bytes.
     ghost ready_owned: { (x : Self) → ready x ≡ true → owned x ≡ true };
 
-    /// A container that owns its bytes and has room for a field is ready.
+    /// What is owned, with room for a field, is ready.
     ghost owned_ready: { (x : Self) → owned x ≡ true → field ≤ spare x → ready x ≡ true };
 
     /// Where the empty list takes elements one after another, it takes them in any other order.
     ghost any_order: { (xs ys : List (List ℕ)) → IsPermutation xs ys →
         takes_pushes takes_insert [] xs ≡ true → takes_pushes takes_insert [] ys ≡ true };
+
+    /// A container has its own form, so it takes a view of itself.
+    ghost own_form: { (x : Self) → has_form (Self.form x) ≡ true };
+
+    /// The empty list is written as no bytes.
+    ghost spelling_of_none: { spelling [] ≡ [] };
+
+    /// What a list that bytes spell is written as has no fault.
+    ghost spelling_sound: { (bytes : List ℕ) → IsBytes bytes → parse_fault bytes ≡ None →
+        parse_fault (spelling (parse_list bytes)) ≡ None };
+
+    /// And it reads as the list.
+    ghost spelling_reads: { (bytes : List ℕ) → IsBytes bytes → parse_fault bytes ≡ None →
+        parse_list (spelling (parse_list bytes)) ≡ parse_list bytes };
 }
 
 /// A container whose list can be changed. Bytes that are borrowed are never written: the first
@@ -166,7 +184,8 @@ pub trait MutableZeroVecLike<'a, T: ZvKind>: ZvContainer<T> {
     fn zvl_from_borrowed(b: RawView<'a>) -> Option<Self>
         requires usable { IsTrue T.usable }
         requires spells { IsTrue (spells_in b.form T.fault b.bytes.now) }
-        ensures fits { is_some result ≡ (length b.entry.bytes.now == 0 || Self.has_form b.entry.form) }
+        ensures fits { is_some result ≡
+            (length b.entry.bytes.now == 0 || Self.has_form b.entry.form) }
         ensures list { IfSome result (λ c. Self.list c ≡ list_in b.entry.form b.entry.bytes.now) }
         ensures bytes { IfSome result (λ c. Self.bytes c ≡ b.entry.bytes.now) }
         ensures owned { IfSome result (λ c. Self.owned c ≡ false) };
@@ -196,18 +215,22 @@ pub trait MutableZeroVecLike<'a, T: ZvKind>: ZvContainer<T> {
     ) -> Result<(), MapError>
         requires below { length (Q.bytes value.now) < 2 ^ 64 }
         requires place { index ≤ length (Self.list self.old) }
-        ensures ok { OnOk result (Self.list self.new ≡ insert (Self.list self.old) index (Q.bytes value.now)) }
+        ensures ok { OnOk result
+            (Self.list self.new ≡ insert (Self.list self.old) index (Q.bytes value.now)) }
         ensures owned { OnOk result (Self.owned self.new ≡ true) }
         ensures err { OnErr result (self.new ≡ self.old) }
-        ensures refused { TooLargeUnless (Self.takes_insert (Self.list self.old) (length (Q.bytes value.now))) result };
+        ensures refused { TooLargeUnless
+            (Self.takes_insert (Self.list self.old) (length (Q.bytes value.now))) result };
 
     /// Puts an element at the end.
     fn zvl_push<Q: ZvArg<T>>(&mut self, alloc: Global, value: &Q) -> Result<(), MapError>
         requires below { length (Q.bytes value.now) < 2 ^ 64 }
-        ensures ok { OnOk result (Self.list self.new ≡ Self.list self.old ++ Q.bytes value.now ∷ []) }
+        ensures ok { OnOk result
+            (Self.list self.new ≡ Self.list self.old ++ Q.bytes value.now ∷ []) }
         ensures owned { OnOk result (Self.owned self.new ≡ true) }
         ensures err { OnErr result (self.new ≡ self.old) }
-        ensures refused { TooLargeUnless (Self.takes_insert (Self.list self.old) (length (Q.bytes value.now))) result };
+        ensures refused { TooLargeUnless
+            (Self.takes_insert (Self.list self.old) (length (Q.bytes value.now))) result };
 
     /// Puts an element in the place of another, which is given back.
     fn zvl_replace<Q: ZvArg<T>>(
@@ -218,17 +241,21 @@ pub trait MutableZeroVecLike<'a, T: ZvKind>: ZvContainer<T> {
     ) -> Result<Self::OwnedType, MapError>
         requires below { length (Q.bytes value.now) < 2 ^ 64 }
         requires place { index < length (Self.list self.old) }
-        ensures ok { OnOk result (Self.list self.new ≡ set (Self.list self.old) index (Q.bytes value.now)) }
-        ensures before { IfOk result (λ old. Self.OwnedType.bytes old ≡ nth (Self.list self.old) index) }
+        ensures ok { OnOk result
+            (Self.list self.new ≡ set (Self.list self.old) index (Q.bytes value.now)) }
+        ensures before { IfOk result
+            (λ old. Self.OwnedType.bytes old ≡ nth (Self.list self.old) index) }
         ensures owned { OnOk result (Self.owned self.new ≡ true) }
         ensures err { OnErr result (self.new ≡ self.old) }
-        ensures refused { TooLargeUnless (Self.takes_replace (Self.list self.old) index (length (Q.bytes value.now))) result };
+        ensures refused { TooLargeUnless
+            (Self.takes_replace (Self.list self.old) index (length (Q.bytes value.now))) result };
 
     /// Takes an element out, which is given back.
     fn zvl_remove(&mut self, alloc: Global, index: usize) -> Result<Self::OwnedType, NoMemory>
         requires { index < length (Self.list self.old) }
         ensures ok { OnOk result (Self.list self.new ≡ remove (Self.list self.old) index) }
-        ensures before { IfOk result (λ old. Self.OwnedType.bytes old ≡ nth (Self.list self.old) index) }
+        ensures before { IfOk result
+            (λ old. Self.OwnedType.bytes old ≡ nth (Self.list self.old) index) }
         ensures owned { OnOk result (Self.owned self.new ≡ true) }
         ensures err { OnErr result (self.new ≡ self.old) };
 }

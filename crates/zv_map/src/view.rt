@@ -1,5 +1,6 @@
 // Views of containers.
-ghost use Rattle.std.specs.Prelude.{◌≡◌, ⊤, ℕ, ◌%◌, ◌==◌, ◌<◌, ◌≤◌, List, [], length, Option, None, IsTrue};
+ghost use Rattle.std.specs.Prelude.{◌≡◌, ⊤, ℕ, ◌%◌, ◌==◌, ◌<◌, ◌≤◌, List, [], length, Option, None};
+ghost use Rattle.std.specs.Prelude.{IsTrue};
 ghost use Rattle.std.specs.List.{slice_get};
 ghost use Rattle.std.specs.Option.{option_map};
 ghost use Rattle.zv_ule.specs.Chunks.{chunks_of, first_fault};
@@ -11,9 +12,7 @@ ghost use Rattle.zv_map.specs.Keys.{nth};
 use crate::vecs::ZeroVecLike;
 use std::alloc::AllocError;
 use std::marker::PhantomData;
-use zv_ule::format::{Index16, Index32};
-use zv_ule::kind::ZvKind;
-use zv_ule::view::VarRef;
+use zv_ule::{Index16, Index32, VarRef, VarZeroVecFormat, ZvKind};
 use zv_var::slice::VarZeroSlice;
 
 /// How the bytes of a container spell its list.
@@ -27,6 +26,22 @@ pub enum Form {
     Index32,
 }
 
+impl Form {
+    ghost use Rattle.zv_map.specs.Forms.{field_width};
+
+    /// The width of a field in bytes, and 0 where the form has no fields.
+    #[inline]
+    pub fn field_width(self) -> usize
+        ensures { result ≡ field_width self }
+    {
+        match self {
+            Form::Fixed(_) => 0,
+            Form::Index16 => Index16::W,
+            Form::Index32 => Index32::W,
+        }
+    }
+}
+
 /// The bytes of a container and their form, without their kind.
 #[derive(Clone, Copy, Debug)]
 pub struct RawView<'b> {
@@ -36,8 +51,8 @@ pub struct RawView<'b> {
     pub form: Form,
 }
 
-/// A view of a container's list, whatever its form. It is copied freely, lives as long as the bytes,
-/// and no call on it checks them again.
+/// A view of a container's list, whatever its form. It is copied freely, lives as long as the
+/// bytes, and no call on it checks them again.
 pub struct KvSlice<'b, T: ZvKind> {
     bytes: &'b [u8],
     form: Form,

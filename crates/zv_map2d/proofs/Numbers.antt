@@ -1,40 +1,41 @@
--- The numbers of a joiner.
-use Rattle.std.proofs.Common.{◌≡◌, ℕ, zero, suc, ◌*◌, ◌/◌, ◌%◌, ◌≤◌, Bool, true, false, not, cond, eqb, List, [], ◌∷◌, length, take, drop, map, Some, None, refl, ◌∙◌, ap, arith, length-drop}
-use Rattle.std.proofs.lemmas.List.{length-take-le}
-use Rattle.std.specs.Int.{w32, from_le_bytes}
-use Rattle.zv_ule.specs.Bytes.{number}
-use Rattle.zv_ule.specs.Chunks.{chunks, chunks_of, first_fault, chunks_fault}
-use Rattle.zv_ule.specs.declared.error.UleError.TheVariants.{InvalidLength}
+-- A joiner as a list of numbers of four bytes.
+use Rattle.std.proofs.Common.{◌≡◌, ℕ, ◌<◌, ◌^◌, List, None, refl, ap, arith, subst}
+use Rattle.std.specs.List.{AllByRecursion, flat_map}
+use Rattle.std.specs.Int.{w32, to_le_bytes, from_le_bytes}
+use Rattle.zv_ule.specs.Bytes.{IsBytes, le}
+use Rattle.zv_ule.specs.Fixed.{IsSpelling}
+use Rattle.zv_ule.specs.laws.Joined.{joined_values}
+use Rattle.zv_ule.specs.laws.Twins.{u32_twin}
 use Rattle.zv_ule.specs.declared.error.TyName.TheVariants.{RawBytes4}
-use Rattle.zv_var.specs.Format.{fields}
-use Rattle.zv_map2d.specs.Causes.{numbers}
+use Rattle.zv_ule.proofs.Lists.{joined_fault, read_list}
+use Rattle.zv_map2d.specs.Causes.{joiner_fault, numbers}
 
--- the number that four bytes spell
-four : (b : List ℕ) → length b ≡ 4 → from_le_bytes w32 b ≡ number b
-four [] h = absurd (omega arith)
-four (a ∷ []) h = absurd (omega arith)
-four (a ∷ b ∷ []) h = absurd (omega arith)
-four (a ∷ b ∷ c ∷ []) h = absurd (omega arith)
-four (a ∷ b ∷ c ∷ d ∷ []) h = omega arith
-four (a ∷ b ∷ c ∷ d ∷ e ∷ r) h = absurd (omega arith)
+-- what is read of four bytes, and what a number is written as
+abbrev IsWritten : (ℕ → List ℕ) → Type 0
+IsWritten chunk = IsSpelling (λ v. v < 2 ^ 32) 4 (λ c. None) chunk (λ c. from_le_bytes w32 c)
 
-read_chunks : (n : ℕ) (b : List ℕ) → 4 * n ≤ length b → map (λ c. from_le_bytes w32 c) (chunks 4 n b) ≡ fields 4 n b
-read_chunks zero b h = refl
-read_chunks (suc n) b h =
-    let t : length (take 4 b) ≡ 4 = length-take-le 4 b (omega arith) in
-    ap (λ (x : ℕ). x ∷ map (λ c. from_le_bytes w32 c) (chunks 4 n (drop 4 b))) (four (take 4 b) t)
-    ∙ ap (λ (xs : List ℕ). number (take 4 b) ∷ xs) (read_chunks n (drop 4 b) (omega (arith, length-drop 4 b)))
+as_u32 : IsWritten (λ v. to_le_bytes w32 v)
+as_u32 = record {
+  writes = λ v h. let k = u32_twin.stored v h in record { each = k.each; long = k.long; good = refl };
+  back = u32_twin.back;
+  reads = λ b c. u32_twin.taken (record { 0 = b }) (record { each = c.each; long = c.long });
+  again = λ b c. ap (λ u. u.0) (u32_twin.again (record { 0 = b }) (record { each = c.each; long = c.long }));
+}
 
--- the values of a joiner are its numbers
-pub values_numbers : (b : List ℕ) → map (λ c. from_le_bytes w32 c) (chunks_of 4 b) ≡ numbers b
-values_numbers b = read_chunks (length b / 4) b (omega arith)
+lowest_first : (v : ℕ) → to_le_bytes w32 v ≡ le 4 v
+lowest_first v = grind arith
 
--- no chunk of four bytes is wrong
-none_wrong : (cs : List (List ℕ)) → first_fault (λ c. None) cs ≡ None
-none_wrong [] = refl
-none_wrong (c ∷ cs) = none_wrong cs
+as_joiner : IsWritten (le 4)
+as_joiner = subst IsWritten (λ i v. lowest_first v i) as_u32
 
-pub joiner_fault : (b : List ℕ) → chunks_fault RawBytes4 4 (λ c. None) b ≡ cond (not (eqb (length b % 4) 0)) (Some (InvalidLength RawBytes4 (length b))) None
-joiner_fault b =
-    let by : (t : Bool) → cond t (first_fault (λ c. None) (chunks_of 4 b)) (Some (InvalidLength RawBytes4 (length b))) ≡ cond (not t) (Some (InvalidLength RawBytes4 (length b))) None = elim [ true ↦ none_wrong (chunks_of 4 b) | false ↦ refl ] in
-    by (eqb (length b % 4) 0)
+-- a joiner is the bytes of its numbers
+pub joiner_written : (b : List ℕ) → IsBytes b → joiner_fault b ≡ None → flat_map (le 4) (numbers b) ≡ b
+joiner_written b bytes none = (read_list as_joiner RawBytes4 b bytes none).joined
+
+-- and numbers are those of the joiner that they are written as
+module _ (ns : List ℕ) (small : AllByRecursion (λ n. n < 2 ^ 32) ns) where
+  pub written_fault : joiner_fault (flat_map (le 4) ns) ≡ None
+  written_fault = joined_fault as_joiner RawBytes4 ns small (omega arith)
+
+  pub written_numbers : numbers (flat_map (le 4) ns) ≡ ns
+  written_numbers = joined_values as_joiner ns small (omega arith)

@@ -1,71 +1,133 @@
--- A map whose vectors are held.
-use Rattle.std.proofs.Common.{◌≡◌, ℕ, suc, ◌+◌, ◌<◌, ◌≤◌, List, [], length, get_or, slice_range, zip, Result, refl, ◌∙◌, ap, subst, arith, zero-add}
-use Rattle.std.specs.Cmp.{IsTotalOrder}
-use Rattle.std.specs.List.{slice_get}
-use Rattle.std.specs.List.Sorted.{IsStrictlySortedBy}
-use Rattle.std.specs.Result.{MatchResult}
+-- What the four lists of a map have.
+use Rattle.std.proofs.Common.{◌≡◌, ℕ, suc, ◌+◌, ◌<◌, ◌≤◌, Bool, true, false, nat_le, List, [], length, get_or, slice_index, slice_range, set, take, zip, IsTrue}
+use Rattle.std.proofs.Common.{Result, Ok, Err, OnOk, OnErr, refl, sym, ◌∙◌, ap, subst, arith, zero-add}
+use Rattle.std.proofs.lemmas.List.{length-map, take-take}
+use Rattle.std.specs.List.{flat_map, slice_get}
 use Rattle.std.specs.declared.cmp.Ordering.{Ordering}
-use Rattle.std.proofs.lemmas.List.{length-map}
-use Rattle.zv_ule.specs.Search.{compared, Found, IsGap}
-use Rattle.zv_map2d.specs.Found.{IsAt}
+use Rattle.zv_map.proofs.Places.{compared_range}
+use Rattle.zv_map.specs.Maps.{keys_of, values_of, set_value_at}
+use Rattle.zv_ule.specs.Search.{compared, Found}
 use Rattle.zv_map2d.specs.Keys.{Bytes}
-use Rattle.zv_map2d.specs.Pairs.{contents, keys}
-use Rattle.zv_map2d.specs.Rows.{Rows, firsts, seconds, before, row_at, rows_from}
-use Rattle.zv_map2d.specs.Causes.{Lists}
-use Rattle.zv_map2d.specs.Views.{IsHeld}
-use Rattle.zv_map2d.proofs.Flat.{before_suc, before_all, length_ends, end_at, row_range, row_well, get_joined, zip_parts}
-use Rattle.zv_map2d.proofs.Places.{compared_range, placed}
+use Rattle.zv_map2d.specs.Refusals.{is_full}
+use Rattle.zv_map2d.specs.Rows.{Rows, firsts, seconds, values, ends, IsFlat, before, row_at, rows_from}
+use Rattle.zv_map2d.specs.Views.{AreColumns, Map2d, Vector}
+use Rattle.zv_map2d.proofs.Splices.{value_set}
+use Rattle.zv_map2d.proofs.Flat.{before_suc, before_within, end_at, get_pair, length_ends, length_pick, row_range, size_split, values_as_many, view_of}
+use Rattle.zv_map2d.proofs.Flat.{zip_parts}
 
--- the map that is seen
-pub held : {o0 o1 : Bytes → Bytes → Ordering} {l : Lists} {m n : Rows} → n ≡ m → IsHeld o0 o1 l n → IsHeld o0 o1 l m
-held {o0} {o1} {l} same h = subst (λ (z : Rows). IsHeld o0 o1 l z) same h
+-- lists that are the same as those of a map
+pub same_lists : {k0s l0s : List Bytes} {es fs : List ℕ} {k1s l1s vs us : List Bytes} {m : Rows} → l0s ≡ k0s → fs ≡ es → l1s ≡ k1s → us ≡ vs →
+    IsFlat k0s es k1s vs m → IsFlat l0s fs l1s us m
+same_lists a b c d flat = record {
+  firsts_are = a ∙ flat.firsts_are;
+  ends_are = b ∙ flat.ends_are;
+  seconds_are = c ∙ flat.seconds_are;
+  values_are = d
+      ∙ flat.values_are;
+}
+
+-- the lists of the map that is seen
+pub seen : {u0 u1 u2 : Bool} {k0s : List Bytes} {es : List ℕ} {k1s vs : List Bytes} {a b c d : Vector} {m : Map2d} →
+    record { rows = rows_from 0 k0s es k1s vs; keys0 = a; joiner = b; keys1 = c; values = d } ≡ m → AreColumns u0 u1 u2 k0s es k1s vs →
+    IsFlat k0s es k1s vs m.rows
+seen {k0s = k0s} {es = es} {k1s = k1s} {vs = vs} same h = subst (λ (v : Map2d). IsFlat k0s es k1s vs v.rows) same h.flat
+
+-- lists of a map are columns
+pub columns : {u0 u1 u2 : Bool} {k0s : List Bytes} {es : List ℕ} {k1s vs : List Bytes} {m : Rows} → IsTrue u0 → IsTrue u1 → IsTrue u2 → IsFlat k0s es k1s vs m →
+    AreColumns u0 u1 u2 k0s es k1s vs
+columns {k0s = k0s} {es = es} {k1s = k1s} {vs = vs} {m = m} a b c flat =
+    record { keys0 = a; keys1 = b; values = c; flat = subst (IsFlat k0s es k1s vs) (sym (view_of k0s es k1s vs m flat)) flat }
 
 -- no lists are those of the map of no pairs
-pub held_none : {o0 o1 : Bytes → Bytes → Ordering} {k0s : List Bytes} {es : List ℕ} {k1s vs : List Bytes} → k0s ≡ [] → es ≡ [] → k1s ≡ [] → vs ≡ [] → IsHeld o0 o1 (record { keys0 = k0s; joiner = es; keys1 = k1s; values = vs }) (rows_from 0 k0s es k1s vs)
-unfolding IsStrictlySortedBy
-held_none a b c d = rw (a, b, c, d) (record { flat = record { firsts_are = refl; ends_are = refl; seconds_are = refl; values_are = refl }; well = (tt, tt) })
+pub none : {k0s : List Bytes} {es : List ℕ} {k1s vs : List Bytes} → k0s ≡ [] → es ≡ [] → k1s ≡ [] → vs ≡ [] → IsFlat k0s es k1s vs []
+none a b c d = record { firsts_are = a; ends_are = b; seconds_are = c; values_are = d }
 
-module _ {o0 o1 : Bytes → Bytes → Ordering} {l : Lists} {m : Rows} (s : IsHeld o0 o1 l m) where
-  pub rows_count : length l.keys0 ≡ length m
-  rows_count = ap length s.flat.firsts_are ∙ length-map m (λ r. r.0)
+-- later rows start no earlier
+pub before_mono : (m : Rows) (i j : ℕ) → i ≤ j → before m i ≤ before m j
+before_mono m i j h =
+    let t : before (take j m) i ≡ before m i = ap (λ z. length (flat_map (λ r. r.1) z)) (take-take i j m h) in
+    omega (arith, before_within (take j m) i, t)
 
-  pub ends_count : length l.joiner ≡ length m
-  ends_count = ap length s.flat.ends_are ∙ length_ends 0 m
+below_full : (n : ℕ) → nat_le 4294967295 n ≡ false → n < 4294967295
+below_full n h = grind arith
 
-  pub pairs_count : length l.keys1 ≡ length (seconds m)
-  pairs_count = ap length s.flat.seconds_are
+pub pairs_below : (m : Rows) → is_full m ≡ false → length (seconds m) < 4294967295
+pairs_below m h = below_full (length (seconds m)) h
+
+module _ {k0s : List Bytes} {es : List ℕ} {k1s vs : List Bytes} {m : Rows} (s : IsFlat k0s es k1s vs m) where
+  pub rows_count : length k0s ≡ length m
+  rows_count = ap length s.firsts_are ∙ length-map m (λ r. r.0)
+
+  pub ends_count : length es ≡ length m
+  ends_count = ap length s.ends_are ∙ length_ends 0 m
 
   -- where the pairs of a row end
-  pub end_is : (i : ℕ) → i < length m → get_or l.joiner i 0 ≡ before m (suc i)
-  end_is i h = ap (λ (xs : List ℕ). get_or xs i 0) s.flat.ends_are ∙ (end_at 0 m i h ∙ zero-add (before m (suc i)))
+  pub end_is : (i : ℕ) → i < length m → get_or es i 0 ≡ before m (suc i)
+  end_is i h = ap (λ (xs : List ℕ). get_or xs i 0) s.ends_are ∙ (end_at 0 m i h ∙ zero-add (before m (suc i)))
+
+  pub row_within : (i : ℕ) → i < length m → (before m i ≤ before m (suc i)) × (before m (suc i) ≤ length k1s) × (before m (suc i) ≤ length vs)
+  row_within i h =
+      let all : length k1s ≡ length (seconds m) = ap length s.seconds_are in
+      let same : length vs ≡ length (seconds m) = ap length s.values_are ∙ values_as_many m in
+      let top = before_within m (suc i) in
+      (omega (arith, before_suc m i h), omega (arith, all, top, length_pick (λ p. p.0) m), omega (arith, same, top, length_pick (λ p. p.0) m))
 
   -- the second keys of a row
-  row_keys : (i : ℕ) → i < length m → slice_range l.keys1 (before m i) (before m (suc i)) ≡ keys (row_at m i)
-  row_keys i h = ap (λ (xs : List Bytes). slice_range xs (before m i) (before m (suc i))) s.flat.seconds_are ∙ row_range (λ p. p.0) m i h
-
-  pub row_within : (i : ℕ) → i < length m → (before m i ≤ before m (suc i)) × (before m (suc i) ≤ length l.keys1)
-  row_within i h =
-      let size = before_suc m i h in
-      let all = before_all (λ p. p.0) m (suc i) in
-      (omega (arith, size), omega (arith, all, pairs_count))
+  row_keys : (i : ℕ) → i < length m → slice_range k1s (before m i) (before m (suc i)) ≡ keys_of (row_at m i)
+  row_keys i h = ap (λ (xs : List Bytes). slice_range xs (before m i) (before m (suc i))) s.seconds_are ∙ row_range (λ p. p.0) m i h
 
   -- what a search of the first keys found
-  pub row_placed : IsTotalOrder o0 → (key : Bytes) (r : Result ℕ ℕ) → Found (compared o0 l.keys0 key) r → MatchResult r (IsAt (compared o0 (firsts m) key)) (IsGap (compared o0 (firsts m) key))
-  row_placed t key r found = placed t key (firsts m) s.well.0 r (subst (λ (xs : List Bytes). Found (compared o0 xs key) r) s.flat.firsts_are found)
+  pub found_row : (order : Bytes → Bytes → Ordering) (key : Bytes) (r : Result ℕ ℕ) → Found (compared order k0s key) r → Found (compared order (firsts m) key) r
+  found_row order key r found = subst (λ (xs : List Bytes). Found (compared order xs key) r) s.firsts_are found
 
   -- what a search of a row's second keys found
-  pub pair_placed : IsTotalOrder o1 → (i start end : ℕ) (key : Bytes) (r : Result ℕ ℕ) → i < length m → start ≡ before m i → end ≡ before m (suc i) → Found (slice_range (compared o1 l.keys1 key) start end) r → MatchResult r (IsAt (compared o1 (keys (row_at m i)) key)) (IsGap (compared o1 (keys (row_at m i)) key))
-  pair_placed t i start end key r h a b found =
-      let same : slice_range (compared o1 l.keys1 key) start end ≡ compared o1 (keys (row_at m i)) key = compared_range o1 key l.keys1 start end ∙ ap (λ (xs : List Bytes). compared o1 xs key) (ap (λ (n : ℕ). slice_range l.keys1 n end) a ∙ (ap (λ (n : ℕ). slice_range l.keys1 (before m i) n) b ∙ row_keys i h)) in
-      placed t key (keys (row_at m i)) (row_well o1 m i s.well.1 h) r (subst (λ (answers : List Ordering). Found answers r) same found)
+  pub found_pair : (order : Bytes → Bytes → Ordering) (key : Bytes) (r : Result ℕ ℕ) (i start end : ℕ) → i < length m → start ≡ before m i →
+      end ≡ before m (suc i) →
+      Found (slice_range (compared order k1s key) start end) r → Found (compared order (keys_of (row_at m i)) key) r
+  found_pair order key r i start end h a b found =
+      let same : slice_range (compared order k1s key) start end ≡ compared order (keys_of (row_at m i)) key =
+      compared_range order key k1s start end ∙ ap (λ (xs : List Bytes). compared order xs key) (rw (a, b) (row_keys i h)) in
+      subst (λ (answers : List Ordering). Found answers r) same found
 
   -- the value of a pair of a row
-  pub value_is : (i j at : ℕ) → i < length m → j < length (row_at m i) → at ≡ before m i + j → slice_get l.values at ≡ slice_get (contents (row_at m i)) j
-  value_is i j at h k a =
-      ap (slice_get l.values) a ∙ (ap (λ (xs : List Bytes). slice_get xs (before m i + j)) s.flat.values_are ∙ get_joined (λ p. p.1) m i j h k)
+  pub value_is : (i j at : ℕ) → i < length m → j < length (row_at m i) → at ≡ before m i + j → slice_get vs at ≡ slice_get (values_of (row_at m i)) j
+  value_is i j at h k a = rw (a, s.values_are) (get_pair (λ p. p.1) m i h j k)
 
   -- the pairs of a row
-  pub row_pairs : (ks vs : List Bytes) (i start end : ℕ) → ks ≡ l.keys1 → vs ≡ l.values → i < length m → start ≡ before m i → end ≡ before m (suc i) → zip (slice_range ks start end) (slice_range vs start end) ≡ row_at m i
-  row_pairs ks vs i start end a b h c d =
-      let values_in_row : slice_range l.values (before m i) (before m (suc i)) ≡ contents (row_at m i) = ap (λ (xs : List Bytes). slice_range xs (before m i) (before m (suc i))) s.flat.values_are ∙ row_range (λ p. p.1) m i h in
+  pub row_pairs : (ks us : List Bytes) (i start end : ℕ) → ks ≡ k1s → us ≡ vs → i < length m → start ≡ before m i → end ≡ before m (suc i) →
+      zip (slice_range ks start end) (slice_range us start end) ≡ row_at m i
+  row_pairs ks us i start end a b h c d =
+      let values_in_row : slice_range vs (before m i) (before m (suc i)) ≡ values_of (row_at m i) =
+      ap (λ (xs : List Bytes). slice_range xs (before m i) (before m (suc i))) s.values_are ∙ row_range (λ p. p.1) m i h in
       rw (a, b, c, d) (rw (row_keys i h, values_in_row) (zip_parts (row_at m i)))
+
+  -- where pairs are still counted, each end can be one more
+  pub ends_below : is_full m ≡ false → (k : ℕ) → k < length es → slice_index es k < 4294967295
+  ends_below room k h = omega (arith, end_is k (omega (arith, h, ends_count)), before_within m (suc k), length_pick (λ p. p.0) m, pairs_below m room)
+
+  -- from a row with a pair on, each end can be one less
+  pub ends_some : (i : ℕ) → i < length m → 0 < length (row_at m i) → (k : ℕ) → i ≤ k → k < length es → 0 < slice_index es k
+  ends_some i h some k a l = omega (arith, end_is k (omega (arith, l, ends_count)), before_suc m i h, before_mono m (suc i) (suc k) (omega arith))
+
+-- what lists take is what those of the map take
+pub taken : (takes : List Bytes → ℕ → Bool) {xs ys : List Bytes} (n : ℕ) → xs ≡ ys → takes ys n ≡ true → takes xs n ≡ true
+taken takes n same h = ap (λ (zs : List Bytes). takes zs n) same ∙ h
+
+-- the lists of a map are its own
+pub own : (m : Rows) → IsFlat (firsts m) (ends m) (seconds m) (values m) m
+own m = record { firsts_are = refl; ends_are = refl; seconds_are = refl; values_are = refl }
+
+-- after a try to give a pair another value
+module _ {k0s : List Bytes} {es : List ℕ} {k1s : List Bytes} {C : Type 0} (list : C → List Bytes) (old new : C) {m : Rows} where
+  pub value_rows : IsFlat k0s es k1s (list old) m → (i j : ℕ) → i < length m → j < length (row_at m i) → {at : ℕ} → at ≡ before m i + j → (v : Bytes) →
+      {A E : Type 0} →
+      (r : Result A E) → OnOk r (list new ≡ set (list old) at v) → OnOk r (rows_from 0 k0s es k1s (list new) ≡ set_value_at m i (set_value_at (row_at m i) j v))
+  value_rows s i j h k {at} e v (Ok x) ok = view_of k0s es k1s (list new) _ (same_lists refl refl refl ok (value_set s i j at h e v k))
+  value_rows s i j h k e v (Err x) ok = tt
+
+  pub value_columns : {u0 u1 u2 : Bool} → AreColumns u0 u1 u2 k0s es k1s (list old) → IsFlat k0s es k1s (list old) m → (i j : ℕ) → i < length m →
+      j < length (row_at m i) → {at : ℕ} → at ≡ before m i + j →
+      (v : Bytes) → {A E : Type 0} → (r : Result A E) → OnOk r (list new ≡ set (list old) at v) → OnErr r (new ≡ old) →
+      AreColumns u0 u1 u2 k0s es k1s (list new)
+  value_columns c s i j h k {at} e v (Ok x) ok err = columns c.keys0 c.keys1 c.values (same_lists refl refl refl ok (value_set s i j at h e v k))
+  value_columns {u0} {u1} {u2} c s i j h k e v (Err x) ok err = subst (λ (z : C). AreColumns u0 u1 u2 k0s es k1s (list z)) (sym err) c

@@ -3,12 +3,12 @@ use Rattle.std.specs.Prelude.{ℕ, ◌+◌, Bool, ◌&&◌, List, length, Option
 use Rattle.std.specs.declared.cmp.Ordering.{Ordering}
 use Rattle.zv_owned.specs.Size.{takes_insert, takes_replace}
 use Rattle.zv_map2d.specs.Keys.{Bytes, nth}
-use Rattle.zv_map2d.specs.Pairs.{look_up, rank}
+use Rattle.zv_map.specs.Maps.{look_up, rank}
 use Rattle.zv_map2d.specs.Rows.{Rows, firsts, seconds, values, row, find, before}
 use Rattle.zv_map2d.specs.Image.{by_bytes}
 
--- the size rules of a map's lists: whether an element of so many bytes may join the first keys, the second keys, the values,
--- and whether one may stand in place of the value at a place
+-- the size rules of a map's lists: whether an element of so many bytes may join the first keys, the
+-- second keys, the values, and whether one may stand in place of the value at a place
 pub record Rule : Type 0 where
   pub takes0 : List Bytes → ℕ → Bool
   pub takes1 : List Bytes → ℕ → Bool
@@ -16,7 +16,8 @@ pub record Rule : Type 0 where
   pub replaces : List Bytes → ℕ → ℕ → Bool
 
 -- where the value of the pair of keys stands, or would stand, among the values
-abbrev pub place : (Bytes → Bytes → Ordering) → (Bytes → Bytes → Ordering) → Rows → Bytes → Bytes → ℕ
+abbrev pub place :
+    (Bytes → Bytes → Ordering) → (Bytes → Bytes → Ordering) → Rows → Bytes → Bytes → ℕ
 place order0 order1 m k0 k1 = before m (rank order0 m k0) + rank order1 (row order0 m k0) k1
 
 -- the test of what was found, or else what holds where nothing was
@@ -28,12 +29,21 @@ if_found None test missing = missing
 abbrev pub pair_fits : Rule → Rows → Bytes → Bytes → Bool
 pair_fits rule m k1 v = rule.takes1 (seconds m) (length k1) && rule.takes2 (values m) (length v)
 
--- v fits: in place of the old value, or with a new pair in the row that is there, or with a new row; a key that is there is not measured
-abbrev pub fits : Rule → (Bytes → Bytes → Ordering) → (Bytes → Bytes → Ordering) → Rows → Bytes → Bytes → Bytes → Bool
-fits rule order0 order1 m k0 k1 v =
-    if_found (find order0 order1 m k0 k1) (λ old. rule.replaces (values m) (place order0 order1 m k0 k1) (length v))
+-- v fits: in place of an old value, by a test of that, or with a new pair in the row that is there,
+-- or with a new row; a key that is there is not measured
+abbrev pub fits_by : (Bytes → Bool) → Rule →
+    (Bytes → Bytes → Ordering) → (Bytes → Bytes → Ordering) → Rows → Bytes → Bytes → Bytes → Bool
+fits_by replaces rule order0 order1 m k0 k1 v =
+    if_found (find order0 order1 m k0 k1) replaces
     (if_found (look_up order0 m k0) (λ r. pair_fits rule m k1 v)
     (rule.takes0 (firsts m) (length k0) && pair_fits rule m k1 v))
+
+-- v fits, by the rules of the lists
+abbrev pub fits : Rule →
+    (Bytes → Bytes → Ordering) → (Bytes → Bytes → Ordering) → Rows → Bytes → Bytes → Bytes → Bool
+fits rule order0 order1 m k0 k1 v =
+    fits_by (λ old. rule.replaces (values m) (place order0 order1 m k0 k1) (length v))
+    rule order0 order1 m k0 k1 v
 
 -- the size rules of a map from two texts to bytes, whose lists have fields of two bytes
 abbrev pub texts_rule : Rule
@@ -44,13 +54,8 @@ texts_rule = record {
   replaces = λ xs i n. takes_replace 2 xs (length (nth xs i)) n;
 }
 
--- a new pair fits in a row of a map from two texts to bytes
-abbrev pub texts_pair_fits : Rows → Bytes → Bytes → Bool
-texts_pair_fits m k1 v = takes_insert 2 (seconds m) (length k1) && takes_insert 2 (values m) (length v)
-
--- v fits in a map from two texts to bytes
+-- v fits in a map from two texts to bytes, by the length of the old value
 abbrev pub fits_texts : Rows → Bytes → Bytes → Bytes → Bool
 fits_texts m k0 k1 v =
-    if_found (find by_bytes by_bytes m k0 k1) (λ old. takes_replace 2 (values m) (length old) (length v))
-    (if_found (look_up by_bytes m k0) (λ r. texts_pair_fits m k1 v)
-    (takes_insert 2 (firsts m) (length k0) && texts_pair_fits m k1 v))
+    fits_by (λ old. takes_replace 2 (values m) (length old) (length v))
+    texts_rule by_bytes by_bytes m k0 k1 v

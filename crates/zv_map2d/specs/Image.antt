@@ -1,4 +1,5 @@
--- The image of a map from two texts to bytes: what it stands for, why it is refused, and its canonical form.
+-- The image of a map from two texts to bytes: what it stands for, why it is refused, and its
+-- canonical form.
 use Rattle.std.specs.Prelude.{◌≡◌, ℕ, List, Option, Some, None, flat_map}
 use Rattle.std.specs.Cmp.Lexicographic.{slice_cmp}
 use Rattle.std.specs.List.{AllByRecursion}
@@ -9,11 +10,13 @@ use Rattle.zv_ule.specs.Chunks.{chunks_fault}
 use Rattle.zv_ule.specs.Kinds.{text_fault}
 use Rattle.zv_ule.specs.declared.error.TyName.TheVariants.{U8}
 use Rattle.zv_ule.specs.declared.error.UleError.{UleError}
-use Rattle.zv_var.specs.Format.{enc, Part}
+use Rattle.zv_var.specs.Format.{enc, elements, list_fault, Part}
+use Rattle.zv_var.specs.Nested.{slice_fault}
 use Rattle.zv_map2d.specs.Keys.{Bytes}
 use Rattle.zv_map2d.specs.Rows.{Rows, firsts, seconds, values, ends, IsWell}
 use Rattle.zv_map2d.specs.Frame.{Parts, frame, unframe}
-use Rattle.zv_map2d.specs.Causes.{Kinds, parts_fault}
+use Rattle.zv_map2d.specs.Causes.{Reading, Readings, reading, readings, read_fault}
+use Rattle.zv_map2d.specs.Views.{written_parts}
 use Rattle.zv_map2d.specs.declared.error.EditError.{EditError}
 use Rattle.zv_map2d.specs.declared.error.EditError.TheVariants.{Frame}
 
@@ -25,9 +28,14 @@ by_bytes = slice_cmp nat_cmp
 abbrev pub bytes_fault : Bytes → Option UleError
 bytes_fault = chunks_fault U8 1 (λ b. None)
 
--- maps from two texts to bytes
-abbrev pub texts_to_bytes : Kinds
-texts_to_bytes = record { fault0 = text_fault; fault1 = text_fault; fault2 = bytes_fault; order0 = by_bytes; order1 = by_bytes }
+-- how a list with fields of two bytes is read, of elements for which `fault` has no error
+abbrev pub var_list : (Bytes → Option UleError) → Reading
+var_list fault = reading (λ b. slice_fault (list_fault 2 fault b)) (elements 2)
+
+-- how a map from two texts to bytes is read
+abbrev pub texts_to_bytes : Readings
+texts_to_bytes =
+    readings (var_list text_fault) (var_list text_fault) (var_list bytes_fault) by_bytes by_bytes
 
 -- each is a text
 abbrev pub AreTexts : List Bytes → Type 0
@@ -56,7 +64,7 @@ pub record Stands (image : List ℕ) (m : Rows) : Type 0 where
 -- why an image with these parts is refused, or one that is no frame
 abbrev pub fault_of : Option Parts → Option EditError
 fault_of None = Some Frame
-fault_of (Some p) = parts_fault texts_to_bytes p
+fault_of (Some p) = read_fault texts_to_bytes p
 
 -- why an image is refused
 abbrev pub fault : List ℕ → Option EditError
@@ -64,7 +72,7 @@ fault image = fault_of (unframe image)
 
 -- the parts of the map's canonical image: no bytes for an empty list
 abbrev pub spelling : Rows → Parts
-spelling m = record { keys0 = enc 2 (firsts m); joiner = flat_map (le 4) (ends m); keys1 = enc 2 (seconds m); values = enc 2 (values m) }
+spelling m = written_parts (enc 2) (enc 2) (enc 2) m
 
 -- the map's canonical image
 abbrev pub canon : Rows → List ℕ

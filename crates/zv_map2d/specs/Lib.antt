@@ -2,7 +2,6 @@ pub mod Causes
 pub mod Changes
 pub mod FiniteMap
 pub mod Fits
-pub mod Found
 pub mod Frame
 pub mod Image
 pub mod ImageRows
@@ -10,7 +9,6 @@ pub mod Iters
 pub mod Keys
 pub mod Laws
 pub mod Locales
-pub mod Pairs
 pub mod Refusals
 pub mod Rows
 pub mod Views

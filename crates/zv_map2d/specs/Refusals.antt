@@ -8,7 +8,8 @@ use Rattle.zv_map2d.specs.declared.error.Map2dError.TheVariants.{TooLarge, TooMa
 abbrev pub is_full : Rows → Bool
 is_full m = nat_le 4294967295 (length (seconds m))
 
--- Refused as too large exactly where the value doesn't fit, and as too many exactly where it fits and no pair more can be counted; want of memory comes after both.
+-- Refused as too large exactly where the value doesn't fit, and as too many exactly where it fits
+-- and no pair more can be counted; want of memory comes after both.
 abbrev pub RefusedUnless : {A : Type 0} → Bool → Bool → Result A Map2dError → Type 0
 RefusedUnless fits full (Ok _) = (fits ≡ true) × (full ≡ false)
 RefusedUnless fits full (Err TooLarge) = fits ≡ false

@@ -1,14 +1,17 @@
 -- What is seen of a map.
-use Rattle.std.specs.Prelude.{ℕ, Bool, List}
+use Rattle.std.specs.Prelude.{◌≡◌, ◌≤◌, ℕ, Bool, false, List, [], IsTrue, Option, None}
 use Rattle.std.specs.List.{flat_map}
 use Rattle.std.specs.declared.cmp.Ordering.{Ordering}
 use Rattle.zv_ule.specs.Bytes.{le}
+use Rattle.zv_ule.specs.declared.error.UleError.{UleError}
 use Rattle.zv_map2d.specs.Causes.{Lists}
 use Rattle.zv_map2d.specs.Frame.{Parts}
 use Rattle.zv_map2d.specs.Keys.{Bytes}
-use Rattle.zv_map2d.specs.Rows.{Rows, firsts, seconds, values, ends, IsFlat, IsWell}
+use Rattle.zv_map2d.specs.Rows.{Rows, firsts, seconds, values, ends, rows_from, IsFlat, IsWell}
+use Rattle.zv_map2d.specs.declared.parts.Parts.{Parts as PartsRead}
 
--- one of a map's vectors: its bytes, by how many bytes it can grow without memory, whether it owns them, and whether a change may come that takes no memory
+-- one of a map's vectors: its bytes, by how many bytes it can grow without memory, whether it owns
+-- them, and whether a change may come that takes no memory
 pub record Vector : Type 0 where
   pub bytes : List ℕ
   pub spare : ℕ
@@ -30,11 +33,67 @@ pub record Row : Type 0 where
 
 -- the bytes of a map's vectors
 abbrev pub parts_of : Map2d → Parts
-parts_of m = record { keys0 = m.keys0.bytes; joiner = m.joiner.bytes; keys1 = m.keys1.bytes; values = m.values.bytes }
+parts_of m = record {
+  keys0 = m.keys0.bytes;
+  joiner = m.joiner.bytes;
+  keys1 = m.keys1.bytes;
+  values = m.values.bytes;
+}
+
+-- the bytes of no pairs
+abbrev pub no_bytes : Parts
+no_bytes = record { keys0 = []; joiner = []; keys1 = []; values = [] }
+
+-- the bytes that are read
+abbrev pub bytes_of : PartsRead → Parts
+bytes_of p = record {
+  keys0 = p.keys0.now;
+  joiner = p.joiner.now;
+  keys1 = p.keys1.now;
+  values = p.values.now;
+}
+
+-- all vectors borrow their bytes
+abbrev pub IsBorrowed : Map2d → Type 0
+IsBorrowed m =
+    (m.keys0.owned ≡ false) × (m.joiner.owned ≡ false) × (m.keys1.owned ≡ false)
+    × (m.values.owned ≡ false)
+
+-- bytes have no fault, and are read as the list
+pub record ReadsAs (fault : List ℕ → Option UleError) (read : List ℕ → List Bytes)
+    (bytes : List ℕ) (xs : List Bytes) : Type 0 where
+  pub sound : fault bytes ≡ None
+  pub list : read bytes ≡ xs
+
+-- a vector owns its bytes exactly if it did before, and can grow by as much at least
+pub record KeepsItsRoom (before after : Vector) : Type 0 where
+  pub owned : after.owned ≡ before.owned
+  pub spare : before.spare ≤ after.spare
+
+-- and so does each vector of a map
+pub record KeepsRoom (before after : Map2d) : Type 0 where
+  pub keys0 : KeepsItsRoom before.keys0 after.keys0
+  pub joiner : KeepsItsRoom before.joiner after.joiner
+  pub keys1 : KeepsItsRoom before.keys1 after.keys1
+  pub values : KeepsItsRoom before.values after.values
 
 -- the parts of a map whose first keys, second keys and values are written by these
-abbrev pub written_parts : (List Bytes → List ℕ) → (List Bytes → List ℕ) → (List Bytes → List ℕ) → Rows → Parts
-written_parts write0 write1 write2 m = record { keys0 = write0 (firsts m); joiner = flat_map (le 4) (ends m); keys1 = write1 (seconds m); values = write2 (values m) }
+abbrev pub written_parts : (List Bytes → List ℕ) → (List Bytes → List ℕ) →
+    (List Bytes → List ℕ) → Rows → Parts
+written_parts write0 write1 write2 m = record {
+  keys0 = write0 (firsts m);
+  joiner = flat_map (le 4) (ends m);
+  keys1 = write1 (seconds m);
+  values = write2 (values m);
+}
+
+-- four lists of elements of usable kinds are those of the map that they stand for
+pub record AreColumns (usable0 usable1 usable2 : Bool) (k0s : List Bytes) (es : List ℕ)
+    (k1s vs : List Bytes) : Type 0 where
+  pub keys0 : IsTrue usable0
+  pub keys1 : IsTrue usable1
+  pub values : IsTrue usable2
+  pub flat : IsFlat k0s es k1s vs (rows_from 0 k0s es k1s vs)
 
 -- the lists are those of a map whose keys ascend
 pub record IsHeld (order0 order1 : Bytes → Bytes → Ordering) (l : Lists) (m : Rows) : Type 0 where

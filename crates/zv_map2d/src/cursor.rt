@@ -1,18 +1,18 @@
 // One row of a map.
-ghost use Rattle.std.specs.Prelude.{◌≡◌, ℕ, ◌^◌, ◌<◌, ◌≤◌, List, length, Option, IfSome, Some, option_map};
+ghost use Rattle.std.specs.Prelude.{◌≡◌, ℕ, ◌^◌, ◌<◌, ◌≤◌, List, length, Option, IfSome, Some};
+ghost use Rattle.std.specs.Prelude.{option_map};
 ghost use Rattle.std.specs.declared.cmp.Ordering.TheVariants.{Equal};
 ghost use Rattle.std.specs.Iterator.{YieldsFirstBy, UpTo, item_count};
 ghost use Rattle.std.specs.Iterator.SizeHint.{IsWithinCount};
 ghost use Rattle.zv_ule.specs.Views.{element_of};
 ghost use Rattle.zv_map.specs.Views.{list_of};
-ghost use Rattle.zv_map2d.specs.Pairs.{look_up};
+ghost use Rattle.zv_map2d.specs.Rows.{row_of};
+ghost use Rattle.zv_map.specs.Maps.{look_up};
 
 use crate::map::Map2dOver;
 use std::marker::Model;
 use zv_map::{KvSlice, ZvContainer};
-use zv_ule::argument::ZvOrdArg;
-use zv_ule::kind::{ZvKind, ZvOrd};
-use zv_ule::view::VarRef;
+use zv_ule::{VarRef, ZvKind, ZvOrd, ZvOrdArg};
 
 /// One row of a map: a first key, and its pairs of a second key and a value in order. It is a place
 /// in the map, and takes no memory.
@@ -48,7 +48,10 @@ impl<
 
     ghost Value = { Row };
 
-    ghost view = { λ c. record { key = nth (firsts c.map.now.rows) c.row; pairs = row_at c.map.now.rows c.row } };
+    ghost view = { λ c. record {
+      key = nth (firsts c.map.now.rows) c.row;
+      pairs = row_at c.map.now.rows c.row;
+    } };
 
     ghost invariant = { λ c. c.row < length c.map.now.rows };
 }
@@ -68,7 +71,10 @@ impl<
         key0: &Q0,
     ) -> Option<ZeroMap2dCursor<'l, 'a, K0, K1, V, C0, C1, D>>
         requires { length (Q0.bytes key0.now) < 2 ^ 64 }
-        ensures pairs { option_map (λ c. c.pairs) result ≡ look_up K0.cmp self.now.rows (Q0.bytes key0.now) }
+        ensures row { option_map (λ c. (c.key, c.pairs)) result
+            ≡ row_of K0.cmp self.now.rows (Q0.bytes key0.now) }
+        ensures pairs { option_map (λ c. c.pairs) result
+            ≡ look_up K0.cmp self.now.rows (Q0.bytes key0.now) }
         ensures key { IfSome result (λ c. K0.cmp c.key (Q0.bytes key0.now) ≡ Equal) }
     {
         match self.row_place(key0) {
@@ -95,7 +101,7 @@ impl<
         ensures { element_of result ≡ self.now.key }
     {
         let map = self.map;
-        map.first_key(self.row)
+        map.columns.first_key(self.row)
     }
 
     /// The row's pairs, in order.
@@ -103,15 +109,7 @@ impl<
         ensures { left_of result ≡ self.now.pairs }
     {
         let map = self.map;
-        let row = self.row;
-        let start = map.row_start(row);
-        let end = map.row_end(row);
-        Iter1 {
-            keys: map.keys1.zvl_as_borrowed(),
-            values: map.values.zvl_as_borrowed(),
-            next: start,
-            end,
-        }
+        map.columns.pairs(self.row)
     }
 
     /// The value of the row's pair with a second key, if there is one. It is one search.
@@ -124,17 +122,17 @@ impl<
         let Ok(pair) = map.pair_place(row, key1) else {
             return None;
         };
-        map.value_at(row, pair)
+        map.columns.value_at(row, pair)
     }
 }
 
 /// The pairs of a row, in order: each a second key and its value.
 #[derive(Drop)]
 pub struct Iter1<'l, K1: ZvKind, V: ZvKind> {
-    keys: KvSlice<'l, K1>,
-    values: KvSlice<'l, V>,
-    next: usize,
-    end: usize,
+    pub(crate) keys: KvSlice<'l, K1>,
+    pub(crate) values: KvSlice<'l, V>,
+    pub(crate) next: usize,
+    pub(crate) end: usize,
     pub ghost order: { next ≤ end },
     pub ghost keys_within: { end ≤ length (list_of keys) },
     pub ghost values_within: { end ≤ length (list_of values) },

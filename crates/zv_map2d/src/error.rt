@@ -1,23 +1,25 @@
 // Why an image or a change is refused.
 
 use thiserror::Error;
-use zv_ule::error::{NoMemory, UleError};
+use zv_ule::{NoMemory, UleError};
 
 /// Why an image is no map, or why an edit of it fails.
 ///
-/// The causes up to `KeyOrder` lie in the image, in the order in which they are looked for; `Memory` and `Write` lie outside.
+/// The causes up to `KeyOrder` lie in the image, in the order in which they are looked for;
+/// `Memory` and `Write` lie outside.
 #[derive(Clone, Copy, Debug, PartialEq, Eq, Error)]
 pub enum EditError {
     /// A length field is cut, or is more than the bytes left, or bytes follow the fourth part.
     #[error("the image is not four parts, each after its length")]
     Frame,
-    /// A part is no list: the joiner's length is no multiple of four, or another part isn't in its format, or an element isn't of its kind.
+    /// A part is not a list: the joiner's length is no multiple of four, or another part isn't in
+    /// its format, or an element isn't of its kind.
     #[error("{0}")]
     Ule(UleError),
-    /// First keys and ends are not as many.
+    /// There are more first keys than ends, or fewer.
     #[error("the first keys and the joiner have different counts")]
     Keys0Joiner,
-    /// Second keys and values are not as many.
+    /// There are more second keys than values, or fewer.
     #[error("the second keys and the values have different counts")]
     Keys1Values,
     /// The first end is 0, or an end is not above the one before.

@@ -1,8 +1,14 @@
 // What images and changes mean: worked ones, and laws.
-ghost use Rattle.zv_map2d.specs.Changes.{FirstPair, KeysThere, LongValues, MissingPair, NewFirstRow, NewPair, OneOfTwo, OnlyPair, OtherValue};
-ghost use Rattle.zv_map2d.specs.FiniteMap.{DelIsGone, DelIsWell, DelLeavesOthers, FoundAlike, PutIsFound, PutIsWell, PutLeavesOthers, TextsAreExact};
-ghost use Rattle.zv_map2d.specs.ImageRows.{Alone, Counts, Empty, Ends, Finds, Lengths, Neighbours, NoFrame, OnePair, OtherSpellings, Prefixes, Texts, TwoRows};
-ghost use Rattle.zv_map2d.specs.Laws.{CanonAgain, CanonStands, DelCodable, DelKeeps, EmptyStands, FitsAlike, FrameExactly, IsReadExactly, OneImage, PutCodable, PutKeeps, SameCanon, StandsForOne};
+ghost use Rattle.zv_map2d.specs.Changes.{FirstPair, KeysThere, LongValues, MissingPair};
+ghost use Rattle.zv_map2d.specs.Changes.{NewFirstRow, NewPair, OneOfTwo, OnlyPair, OtherValue};
+ghost use Rattle.zv_map2d.specs.FiniteMap.{DelIsGone, DelIsWell, DelLeavesOthers, FoundAlike};
+ghost use Rattle.zv_map2d.specs.FiniteMap.{PutIsFound, PutIsWell, PutLeavesOthers, TextsAreExact};
+ghost use Rattle.zv_map2d.specs.ImageRows.{Alone, Counts, Empty, Ends, Finds, Lengths, Neighbours};
+ghost use Rattle.zv_map2d.specs.ImageRows.{NoFrame, OnePair, OtherSpellings, OwnErrors, Prefixes};
+ghost use Rattle.zv_map2d.specs.ImageRows.{Texts, TwoRows};
+ghost use Rattle.zv_map2d.specs.Laws.{CanonAgain, CanonStands, DelCodable, DelKeeps, EmptyStands};
+ghost use Rattle.zv_map2d.specs.Laws.{FitsAlike, FrameExactly, IsReadExactly, OneImage, PutCodable};
+ghost use Rattle.zv_map2d.specs.Laws.{PutKeeps, SameCanon, StandsForOne};
 ghost use Rattle.zv_map2d.specs.Locales.{Locales};
 
 /// Worked images. It does nothing.
@@ -16,6 +22,7 @@ pub fn worked_images()
     ensures ends { Ends }
     ensures texts { Texts }
     ensures counts { Counts }
+    ensures own_errors { OwnErrors }
     ensures alone { Alone }
     ensures neighbours { Neighbours }
     ensures prefixes { Prefixes }

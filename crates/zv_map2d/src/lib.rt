@@ -1,24 +1,24 @@
-//! Maps in two levels, kept as the bytes of four vectors and read in place, and the image that one such map is stored as.
+//! Maps in two levels, kept as the bytes of four vectors and read in place, and the image that one
+//! such map is stored as.
 //!
 //! A map gives each pair of a first and a second key a value. Its first keys stand in one vector,
-//! the second keys of all rows in another, the values in a third; the joiner tells where each row ends.
-//! [`ZeroMap2d`] is a map whose kinds choose their containers, and [`Map2dOver`] is one over any containers.
+//! the second keys of all rows in another, the values in a third; the joiner tells where each row
+//! ends.
+//! [`ZeroMap2d`] is a map whose kinds choose their containers, and [`Map2dOver`] is one over any
+//! containers.
 #![tactic(auto)]
 
-mod canon;
-mod check;
+mod columns;
 pub mod cursor;
+mod edits;
 pub mod error;
 pub mod image;
-mod insert;
 mod joiner;
 pub mod laws;
-mod lookup;
 pub mod map;
 mod order;
 mod parse;
 pub mod parts;
-mod remove;
 
 pub use cursor::{Iter1, ZeroMap2dCursor};
 pub use error::{EditError, Map2dError};

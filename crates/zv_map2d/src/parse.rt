@@ -1,26 +1,31 @@
 // Reading a map from the bytes of its vectors.
-ghost use Rattle.std.specs.Prelude.{◌≡◌, false, None, IfOk, IfErr, IsTrue};
+ghost use Rattle.std.specs.Prelude.{◌≡◌, ℕ, ◌<◌, ◌≤◌, true, false, Some, None, IfOk, IfErr, IsTrue};
+ghost use Rattle.std.specs.Prelude.{cond, length};
+ghost use Rattle.std.specs.List.{list_all};
 ghost use Rattle.std.specs.Option.{option_map};
 ghost use Rattle.std.specs.Result.{result_err};
-ghost use Rattle.zv_ule.specs.Chunks.{chunks_fault};
-ghost use Rattle.zv_ule.specs.declared.error.TyName.TheVariants.{RawBytes4};
-ghost use Rattle.zv_map2d.specs.Causes.{Readings, is_parts_cause, lists_read, numbers, read_fault, rows_of_lists};
+ghost use Rattle.zv_fixed.specs.Views.{values_in};
+ghost use Rattle.zv_map2d.specs.Causes.{Lists, climbs, is_parts_cause, last_of, reading, readings};
+ghost use Rattle.zv_map2d.specs.Causes.{joiner_fault, keys_ascend, lists_fault, numbers};
+ghost use Rattle.zv_map2d.specs.Causes.{read_fault};
+ghost use Rattle.zv_map2d.specs.Causes.{rows_read, stretches};
 ghost use Rattle.zv_map2d.specs.Frame.{Parts as PartsSeen};
+ghost use Rattle.zv_map2d.specs.Keys.{ascends};
 ghost use Rattle.zv_map2d.specs.Rows.{IsWell};
-ghost use Rattle.zv_map2d.specs.Views.{parts_of};
+ghost use Rattle.zv_map2d.specs.Views.{IsBorrowed, parts_of};
 ghost use Rattle.zv_map2d.specs.declared.error.EditError.TheVariants.{Ule};
 
-use crate::check::check_lists;
+use crate::columns::Columns;
 use crate::error::EditError;
 use crate::map::Map2dOver;
 use std::marker::PhantomData;
-use zv_fixed::ZeroVec;
-use zv_map::MutableZeroVecLike;
-use zv_ule::kind::{ZvKind, ZvOrd};
+use zv_fixed::{ZeroSlice, ZeroVec};
+use zv_map::{MutableZeroVecLike, ZeroVecLike, ZeroVecSearch};
+use zv_ule::{ZvKind, ZvOrd};
 
 /// The numbers of a joiner.
 fn read_joiner<'a>(bytes: &'a [u8]) -> Result<ZeroVec<'a, u32>, EditError>
-    ensures error { result_err result ≡ option_map Ule (chunks_fault RawBytes4 4 (λ chunk. None) bytes.now) }
+    ensures error { result_err result ≡ option_map Ule (joiner_fault bytes.now) }
     ensures bytes { IfOk result (λ joiner. joiner.bytes ≡ bytes.now) }
     ensures values { IfOk result (λ joiner. joiner.values ≡ numbers bytes.now) }
     ensures borrowed { IfOk result (λ joiner. joiner.owned ≡ false) }
@@ -41,6 +46,75 @@ fn read_list<'a, K: ZvKind, C: MutableZeroVecLike<'a, K>>(bytes: &'a [u8]) -> Re
     C::zvl_parse(bytes).map_err(EditError::Ule)
 }
 
+/// The last end, or 0 where there is none, if the ends ascend from above 0, else `None`.
+fn last_ascending_end(joiner: ZeroSlice<'_, u32>) -> Option<u32>
+    ensures { result ≡ cond (climbs 0 (values_in joiner.entry))
+        (Some (last_of 0 (values_in joiner.entry))) None }
+{
+    let mut last = 0;
+    for end in joiner.iter() {
+        if end <= last {
+            return None;
+        }
+        last = end;
+    }
+    Some(last)
+}
+
+/// Whether the keys ascend in each row.
+fn rows_ascend<K: ZvOrd, C: ZeroVecLike<K>>(keys: &C, joiner: ZeroSlice<'_, u32>) -> bool
+    requires climb { climbs 0 (values_in joiner) ≡ true }
+    requires within { last_of 0 (values_in joiner) ≤ length (C.list keys.now) }
+    ensures { result
+        ≡ list_all (ascends K.cmp) (stretches 0 (values_in joiner.entry) (C.list keys.now)) }
+{
+    let mut start = 0;
+    for end in joiner.iter() {
+        let end = end as usize;
+        if !keys.zvl_is_ascending_between(start, end) {
+            return false;
+        }
+        start = end;
+    }
+    true
+}
+
+/// The first cause that lies in the lists.
+fn check_lists<
+    K0: ZvOrd,
+    K1: ZvOrd,
+    V: ZvKind,
+    C0: ZeroVecLike<K0>,
+    C1: ZeroVecLike<K1>,
+    D: ZeroVecLike<V>,
+>(keys0: &C0, joiner: ZeroSlice<'_, u32>, keys1: &C1, values: &D) -> Result<(), EditError>
+    ensures error { result_err result ≡ lists_fault K0.cmp K1.cmp (record {
+      keys0 = C0.list keys0.now;
+      joiner = values_in joiner.entry;
+      keys1 = C1.list keys1.now;
+      values = D.list values.now;
+    }) }
+    ensures cause { IfErr result (λ e. IsTrue (is_parts_cause e)) }
+{
+    let pairs = keys1.zvl_len();
+    if keys0.zvl_len() != joiner.len() {
+        return Err(EditError::Keys0Joiner);
+    }
+    if pairs != values.zvl_len() {
+        return Err(EditError::Keys1Values);
+    }
+    let Some(end) = last_ascending_end(joiner) else {
+        return Err(EditError::JoinerOrder);
+    };
+    if end as usize != pairs {
+        return Err(EditError::JoinerEnd);
+    }
+    if !(keys0.zvl_is_ascending() && rows_ascend::<K1, C1>(keys1, joiner)) {
+        return Err(EditError::KeyOrder);
+    }
+    Ok(())
+}
+
 impl<
     'a,
     K0: ZvOrd,
@@ -52,8 +126,8 @@ impl<
 > Map2dOver<'a, K0, K1, V, C0, C1, D> {
     /// The map of four vectors, each given as its bytes, which the map keeps.
     ///
-    /// `joiner` has for each row the number of pairs up to its end, as four bytes, the lowest first.
-    /// The other vectors are in the forms of their containers.
+    /// `joiner` has for each row the number of pairs up to its end, as four bytes, the lowest
+    /// first. The other vectors are in the forms of their containers.
     ///
     /// # Errors
     /// The first of these: the joiner's bytes are no numbers; a vector's own error, the first keys'
@@ -72,11 +146,36 @@ impl<
         requires keys0 { IsTrue K0.usable }
         requires keys1 { IsTrue K1.usable }
         requires values { IsTrue V.usable }
-        ensures error { result_err result ≡ read_fault (record { fault0 = C0.parse_fault; fault1 = C1.parse_fault; fault2 = D.parse_fault; list0 = C0.parse_list; list1 = C1.parse_list; list2 = D.parse_list; order0 = K0.cmp; order1 = K1.cmp }) (record { keys0 = keys0.now; joiner = joiner.now; keys1 = keys1.now; values = values.now }) }
-        ensures rows { IfOk result (λ m. m.rows ≡ rows_of_lists (lists_read (record { fault0 = C0.parse_fault; fault1 = C1.parse_fault; fault2 = D.parse_fault; list0 = C0.parse_list; list1 = C1.parse_list; list2 = D.parse_list; order0 = K0.cmp; order1 = K1.cmp }) (record { keys0 = keys0.now; joiner = joiner.now; keys1 = keys1.now; values = values.now }))) }
+        ensures error { result_err result ≡ read_fault (readings
+            (reading C0.parse_fault C0.parse_list)
+            (reading C1.parse_fault C1.parse_list)
+            (reading D.parse_fault D.parse_list)
+            K0.cmp K1.cmp)
+            (record {
+              keys0 = keys0.now;
+              joiner = joiner.now;
+              keys1 = keys1.now;
+              values = values.now;
+            }) }
+        ensures rows { IfOk result (λ m. m.rows ≡ rows_read (readings
+            (reading C0.parse_fault C0.parse_list)
+            (reading C1.parse_fault C1.parse_list)
+            (reading D.parse_fault D.parse_list)
+            K0.cmp K1.cmp)
+            (record {
+              keys0 = keys0.now;
+              joiner = joiner.now;
+              keys1 = keys1.now;
+              values = values.now;
+            })) }
         ensures well { IfOk result (λ m. IsWell K0.cmp K1.cmp m.rows) }
-        ensures parts { IfOk result (λ m. parts_of m ≡ record { keys0 = keys0.now; joiner = joiner.now; keys1 = keys1.now; values = values.now }) }
-        ensures borrowed { IfOk result (λ m. (m.keys0.owned ≡ false) × (m.joiner.owned ≡ false) × (m.keys1.owned ≡ false) × (m.values.owned ≡ false)) }
+        ensures parts { IfOk result (λ m. parts_of m ≡ record {
+          keys0 = keys0.now;
+          joiner = joiner.now;
+          keys1 = keys1.now;
+          values = values.now;
+        }) }
+        ensures borrowed { IfOk result IsBorrowed }
         ensures cause { IfErr result (λ e. IsTrue (is_parts_cause e)) }
     {
         let joiner = read_joiner(joiner)?;
@@ -85,11 +184,13 @@ impl<
         let values = read_list::<V, D>(values)?;
         check_lists::<K0, K1, V, C0, C1, D>(&keys0, joiner.as_slice(), &keys1, &values)?;
         Ok(Map2dOver {
-            keys0,
-            joiner,
-            keys1,
-            values,
-            kinds: PhantomData,
+            columns: Columns {
+                keys0,
+                joiner,
+                keys1,
+                values,
+                kinds: PhantomData,
+            },
         })
     }
 }

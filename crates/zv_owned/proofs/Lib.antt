@@ -1,7 +1,7 @@
 pub mod Codable
-pub mod Heads
-pub mod Kept
 pub mod Offsets
+pub mod Pieces
 pub mod Pushes
-pub mod Removals
+pub mod SizeRule
 pub mod Splices
+pub mod Starts

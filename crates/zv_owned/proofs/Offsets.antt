@@ -1,5 +1,6 @@
 -- Where the elements of a list start.
-use Rattle.std.proofs.Common.{◌≡◌, ℕ, zero, suc, ◌+◌, ◌-◌, ◌^◌, ◌<◌, ◌≤◌, List, [], ◌∷◌, ◌++◌, length, take, drop, get_or, ap, ◌∙◌, sym, arith, length-append, append_assoc, subst}
+use Rattle.std.proofs.Common.{◌≡◌, ℕ, zero, suc, ◌+◌, ◌-◌, ◌^◌, ◌<◌, ◌≤◌, List, [], ◌∷◌, ◌++◌, length, take, drop, get_or, ap, ◌∙◌, sym, arith, length-append}
+use Rattle.std.proofs.Common.{append_assoc, subst}
 use Rattle.std.proofs.lemmas.List.{at_drop_more}
 use Rattle.std.specs.List.{concat, flat_map, AllByRecursion}
 use Rattle.zv_ule.specs.Bytes.{le}
@@ -22,10 +23,16 @@ pub offset_rises : (xs : List (List ℕ)) (a b : ℕ) → a ≤ b → offset_of 
 offset_rises xs zero b h = omega arith
 offset_rises [] (suc a) b h = omega arith
 offset_rises (x ∷ xs) (suc a) zero h = absurd (omega arith)
-offset_rises (x ∷ xs) (suc a) (suc b) h = omega (arith, length-append x (concat (take a xs)), length-append x (concat (take b xs)), offset_rises xs a b (omega arith))
+offset_rises (x ∷ xs) (suc a) (suc b) h = omega (
+  arith,
+  length-append x (concat (take a xs)),
+  length-append x (concat (take b xs)),
+  offset_rises xs a b (omega arith),
+)
 
 -- The elements from place p on, where that one starts at r, if the one from place `first` on, which starts at `base`, is to start at `start`.
-module _ (w : ℕ) (xs : List (List ℕ)) (first base start p count r : ℕ) (at : base ≡ offset_of xs first) (here : r ≡ offset_of xs p) (order : first ≤ p) (test : p < count) (all : count ≡ length xs) where
+module _ (w : ℕ) (xs : List (List ℕ)) (first base start p count r : ℕ) (at : base ≡ offset_of xs first) (here : r ≡ offset_of xs p) (order : first ≤ p)
+    (test : p < count) (all : count ≡ length xs) where
   abbrev later_starts : ℕ → List ℕ
   later_starts k = starts_from (start + (offset_of xs k - base)) (drop k xs)
 
@@ -37,12 +44,14 @@ module _ (w : ℕ) (xs : List (List ℕ)) (first base start p count r : ℕ) (at
       let s : ℕ = start + (offset_of xs p - base) in
       let k : p < length xs = omega (arith, test, all) in
       let e : s + length (get_or xs p []) ≡ start + (offset_of xs (p + 1) - base) = omega (arith, offset_more xs p k, shift_positive, here) in
-      at_drop_more (λ (l : List (List ℕ)). starts_from s l) xs p [] k ∙ (ap (λ (k : ℕ). s ∷ starts_from k (drop (p + 1) xs)) e ∙ ap (λ (o : ℕ). (start + (o - base)) ∷ later_starts (p + 1)) (sym here))
+      at_drop_more (λ (l : List (List ℕ)). starts_from s l) xs p [] k
+      ∙ (ap (λ (k : ℕ). s ∷ starts_from k (drop (p + 1) xs)) e ∙ ap (λ (o : ℕ). (start + (o - base)) ∷ later_starts (p + 1)) (sym here))
 
   pub next_fits : AllByRecursion (λ s. s < 256 ^ w) (later_starts p) → (start + (r - base) < 256 ^ w) × AllByRecursion (λ s. s < 256 ^ w) (later_starts (p + 1))
   next_fits f = let P : List ℕ → Type 0 = λ l. AllByRecursion (λ s. s < 256 ^ w) l in subst P later f
 
-  pub one_more : (old new whole : List ℕ) → old ++ flat_map (le w) (later_starts p) ≡ whole → new ≡ old ++ le w (start + (r - base)) → new ++ flat_map (le w) (later_starts (p + 1)) ≡ whole
+  pub one_more : (old new whole : List ℕ) → old ++ flat_map (le w) (later_starts p) ≡ whole → new ≡ old ++ le w (start + (r - base)) →
+      new ++ flat_map (le w) (later_starts (p + 1)) ≡ whole
   one_more old new whole h e =
       let s : List ℕ = le w (start + (r - base)) in
       let m : List ℕ = flat_map (le w) (later_starts (p + 1)) in

@@ -7,8 +7,9 @@ use Rattle.std.proofs.lemmas.List.Sums.{sum_by-cons}
 use Rattle.std.specs.List.{AllByRecursion, concat, sum_by}
 use Rattle.std.specs.Prelude.{IsPermutation}
 use Rattle.zv_owned.specs.Size.{max_of, size, takes_insert, takes_pushes}
-use Rattle.zv_owned.proofs.Codable.{both, more_times, size_of, taken}
-use Rattle.zv_owned.proofs.Kept.{concat-append}
+use Rattle.std.proofs.lemmas.Bool.{and_parts}
+use Rattle.std.proofs.lemmas.List.Folds.{concat-append}
+use Rattle.zv_owned.proofs.Codable.{is_at_most, more_times, size_of}
 
 below : (m n : ℕ) → m < n → nat_lt m n ≡ true
 below m n h = grind arith
@@ -35,19 +36,26 @@ module _ (w : ℕ) (some : 0 < w) (narrow : 256 ^ w ≤ 2 ^ 32) where
 
   one_short : (xs : List (List ℕ)) (n : ℕ) → takes_insert w xs n ≡ true → n < max_of w
   one_short [] n t = above n (max_of w) t
-  one_short (x ∷ xs) n t = above n (max_of w) (both (nat_lt n (max_of w)) _ t).0
+  one_short (x ∷ xs) n t = above n (max_of w) (and_parts (nat_lt n (max_of w)) _ t).0
 
   all_short : (xs es : List (List ℕ)) → takes_pushes (takes_insert w) xs es ≡ true → AllByRecursion IsShort es
   all_short xs [] t = tt
   all_short xs (e ∷ es) t =
-      let b = both (takes_insert w xs (length e)) _ t in
+      let b = and_parts (takes_insert w xs (length e)) _ t in
       (one_short xs (length e) b.0, all_short (xs ++ (e ∷ [])) es b.1)
 
   size_pushed : (x : List ℕ) (xs : List (List ℕ)) (e : List ℕ) → size w (x ∷ (xs ++ (e ∷ []))) ≡ size w (x ∷ xs) + length e + w
   size_pushed x xs e =
       let l : length (x ∷ (xs ++ (e ∷ []))) ≡ length (x ∷ xs) + 1 = omega (arith, length-append xs (e ∷ [])) in
-      let d : length (concat ((x ∷ xs) ++ (e ∷ []))) ≡ length (concat (x ∷ xs)) + length e = omega (arith, ap length (concat-append (x ∷ xs) (e ∷ [])), length-append (concat (x ∷ xs)) (concat (e ∷ [])), length-append e []) in
-      omega (arith, size_of w some narrow (x ∷ (xs ++ (e ∷ []))) (omega arith), size_of w some narrow (x ∷ xs) (omega arith), more_times w some narrow (length (x ∷ xs)) _ l, d)
+      let d : length (concat ((x ∷ xs) ++ (e ∷ []))) ≡ length (concat (x ∷ xs)) + length e =
+      omega (arith, ap length (concat-append (x ∷ xs) (e ∷ [])), length-append (concat (x ∷ xs)) (concat (e ∷ [])), length-append e []) in
+      omega (
+        arith,
+        size_of w some narrow (x ∷ (xs ++ (e ∷ []))) (omega arith),
+        size_of w some narrow (x ∷ xs) (omega arith),
+        more_times w some narrow (length (x ∷ xs)) _ l,
+        d,
+      )
 
   pushed_next : (x : List ℕ) (xs : List (List ℕ)) (e : List ℕ) (es : List (List ℕ)) → x ∷ ((xs ++ (e ∷ [])) ++ es) ≡ x ∷ (xs ++ (e ∷ es))
   pushed_next x xs e es = ap (λ (l : List (List ℕ)). x ∷ l) (append_assoc xs (e ∷ []) es)
@@ -58,16 +66,18 @@ module _ (w : ℕ) (some : 0 < w) (narrow : 256 ^ w ≤ 2 ^ 32) where
   size_rises x xs (e ∷ es) = omega (arith, size_pushed x xs e, size_rises x (xs ++ (e ∷ [])) es, ap (λ (l : List (List ℕ)). size w l) (pushed_next x xs e es))
 
   -- a list that isn't empty takes them exactly where each is short and the whole is within what a field holds
-  within : (x : List ℕ) (xs : List (List ℕ)) (e : List ℕ) (es : List (List ℕ)) → takes_pushes (takes_insert w) (x ∷ xs) (e ∷ es) ≡ true → size w (x ∷ (xs ++ (e ∷ es))) ≤ max_of w
+  within : (x : List ℕ) (xs : List (List ℕ)) (e : List ℕ) (es : List (List ℕ)) → takes_pushes (takes_insert w) (x ∷ xs) (e ∷ es) ≡ true →
+      size w (x ∷ (xs ++ (e ∷ es))) ≤ max_of w
   within x xs e [] t =
-      let b = both (takes_insert w (x ∷ xs) (length e)) _ t in
-      let k = taken (size w (x ∷ xs) + length e + w) (max_of w) (both (nat_lt (length e) (max_of w)) _ b.0).1 in
+      let b = and_parts (takes_insert w (x ∷ xs) (length e)) _ t in
+      let k = is_at_most (size w (x ∷ xs) + length e + w) (max_of w) (and_parts (nat_lt (length e) (max_of w)) _ b.0).1 in
       omega (arith, k, size_pushed x xs e)
   within x xs e (f ∷ es) t =
-      let b = both (takes_insert w (x ∷ xs) (length e)) _ t in
+      let b = and_parts (takes_insert w (x ∷ xs) (length e)) _ t in
       omega (arith, within x (xs ++ (e ∷ [])) f es b.1, ap (λ (l : List (List ℕ)). size w l) (pushed_next x xs e (f ∷ es)))
 
-  takes_within : (x : List ℕ) (xs es : List (List ℕ)) → AllByRecursion IsShort es → size w (x ∷ (xs ++ es)) ≤ max_of w → takes_pushes (takes_insert w) (x ∷ xs) es ≡ true
+  takes_within : (x : List ℕ) (xs es : List (List ℕ)) → AllByRecursion IsShort es → size w (x ∷ (xs ++ es)) ≤ max_of w →
+      takes_pushes (takes_insert w) (x ∷ xs) es ≡ true
   takes_within x xs [] short h = refl
   takes_within x xs (e ∷ es) short h =
       let s : size w (x ∷ ((xs ++ (e ∷ [])) ++ es)) ≤ max_of w = omega (arith, h, ap (λ (l : List (List ℕ)). size w l) (pushed_next x xs e es)) in
@@ -78,16 +88,26 @@ module _ (w : ℕ) (some : 0 < w) (narrow : 256 ^ w ≤ 2 ^ 32) where
   size_permuted xs ys p h =
       let l : length ys ≡ length xs = length_permutation xs ys p in
       let m : w * length ys ≡ w * length xs = ap (λ (n : ℕ). w * n) l in
-      omega (arith, size_of w some narrow xs h, size_of w some narrow ys (omega (arith, l, h)), m, length_concat xs, length_concat ys, sum_by-IsPermutation (λ x. length x) xs ys p)
+      omega (
+        arith,
+        size_of w some narrow xs h,
+        size_of w some narrow ys (omega (arith, l, h)),
+        m,
+        length_concat xs,
+        length_concat ys,
+        sum_by-IsPermutation (λ x. length x) xs ys p,
+      )
 
   all_permuted : (xs ys : List (List ℕ)) → IsPermutation xs ys → AllByRecursion IsShort xs → AllByRecursion IsShort ys
   all_permuted xs ys p short = recursion_from_All IsShort ys (All-permutation IsShort xs ys p (All-from_recursion IsShort xs short))
 
   -- several elements that were taken are within what a field holds, and so they are in another order
-  within_permuted : (xs : List (List ℕ)) (y z : List ℕ) (ys : List (List ℕ)) → IsPermutation xs (y ∷ z ∷ ys) → takes_pushes (takes_insert w) [] xs ≡ true → size w (y ∷ z ∷ ys) ≤ max_of w
+  within_permuted : (xs : List (List ℕ)) (y z : List ℕ) (ys : List (List ℕ)) → IsPermutation xs (y ∷ z ∷ ys) → takes_pushes (takes_insert w) [] xs ≡ true →
+      size w (y ∷ z ∷ ys) ≤ max_of w
   within_permuted [] y z ys p t = absurd (omega (arith, length_permutation [] (y ∷ z ∷ ys) p))
   within_permuted (a ∷ []) y z ys p t = absurd (omega (arith, length_permutation (a ∷ []) (y ∷ z ∷ ys) p))
-  within_permuted (a ∷ b ∷ xs) y z ys p t = omega (arith, size_permuted (a ∷ b ∷ xs) (y ∷ z ∷ ys) p (omega arith), within a [] b xs (both (takes_insert w [] (length a)) _ t).1)
+  within_permuted (a ∷ b ∷ xs) y z ys p t = omega
+      (arith, size_permuted (a ∷ b ∷ xs) (y ∷ z ∷ ys) p (omega arith), within a [] b xs (and_parts (takes_insert w [] (length a)) _ t).1)
 
   pub any_order : (xs ys : List (List ℕ)) → IsPermutation xs ys → takes_pushes (takes_insert w) [] xs ≡ true → takes_pushes (takes_insert w) [] ys ≡ true
   any_order xs [] p t = refl

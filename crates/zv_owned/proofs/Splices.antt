@@ -1,164 +1,233 @@
--- Changed lists: what they take, and what their bytes are.
-use Rattle.std.proofs.Common.{◌≡◌, ℕ, zero, suc, ◌+◌, ◌-◌, ◌*◌, ◌^◌, ◌<◌, ◌≤◌, Bool, true, false, ◌&&◌, ◌==◌, nat_lt, nat_le, List, [], ◌∷◌, ◌++◌, length, take, drop, get_or, set, refl, ap, ◌∙◌, sym, arith, subst, Option, None}
-use Rattle.std.proofs.Math.Nat.{mul-one}
-use Rattle.std.proofs.lemmas.List.{length-set}
-use Rattle.std.proofs.lemmas.List.Edits.{length-insert}
-use Rattle.std.specs.List.{concat, insert, remove}
-use Rattle.zv_ule.specs.declared.error.UleError.{UleError}
-use Rattle.zv_var.specs.Format.{Part, codable, elements, enc, list_fault}
-use Rattle.zv_var.specs.Laws.{AreValid}
-use Rattle.zv_var.proofs.Encoding.{elements-enc, fault-enc}
-use Rattle.zv_owned.specs.Anew.{HasPlace, spliced}
-use Rattle.zv_owned.specs.Size.{max_of, size, takes_insert, takes_replace}
-use Rattle.zv_owned.proofs.Codable.{both, taken, concat_insert, concat_set, insert_codable, more_times, power_some, remove_codable, replace_codable, size_of}
-use Rattle.zv_owned.proofs.Offsets.{offset_more, offset_of}
-use Rattle.zv_owned.proofs.Removals.{codable_from_Part}
+-- The encoding of a changed list: the fields and the bytes of what stays, and what is new between them.
+use Rattle.std.proofs.Common.{◌≡◌, ℕ, suc, ◌+◌, ◌-◌, ◌*◌, ◌^◌, ◌<◌, ◌≤◌, true, List, [], ◌∷◌, ◌++◌, length, take, drop, refl, ap, ◌∙◌, sym, arith}
+use Rattle.std.proofs.Common.{length-append, length-drop, subst, Option, Some, None, unwrap_or, inl, inr, Bor, mul-le-mul_left}
+use Rattle.std.proofs.Math.Nat.{mul-suc}
+use Rattle.std.proofs.Math.Seq.{drop-append-add}
+use Rattle.std.proofs.lemmas.Bool.{cases_lt}
+use Rattle.std.proofs.lemmas.List.{append-nil, drop-append-le, drop_all, length-take-le, take_all}
+use Rattle.std.proofs.lemmas.List.Concat.{flat_map-append}
+use Rattle.std.proofs.lemmas.List.Folds.{concat-append}
+use Rattle.std.specs.List.{AllByRecursion, concat, flat_map, splice}
+use Rattle.std.specs.Option.{ForSome, option_map, option_to_list}
+use Rattle.zv_ule.specs.Bytes.{le}
+use Rattle.zv_ule.proofs.Fields.{length-le}
+use Rattle.zv_var.specs.Format.{Part, codable, enc, starts_from}
+use Rattle.zv_owned.specs.Splices.{new_bytes, starts_after}
+use Rattle.zv_owned.proofs.Codable.{fields_fit, length_between}
+use Rattle.zv_owned.proofs.Offsets.{offset_of, offset_rises}
+use Rattle.zv_owned.proofs.Pieces.{concat_parts, enc_fields, fields_of, holds, length-fields_of}
+use Rattle.zv_owned.proofs.Starts.{AreBelow, below_later, starts_from-append}
 
-below : (m n : ℕ) → m < n → nat_lt m n ≡ true
-below m n h = grind arith
+-- how many bytes an element has, if there is one
+abbrev pub gap_of : Option (List ℕ) → Option ℕ
+gap_of o = option_map (λ e. length e) o
 
-at_most : (m n : ℕ) → m ≤ n → nat_le m n ≡ true
-at_most m n h = grind arith
+pub starts_new : (n : ℕ) (o : Option (List ℕ)) (ys : List (List ℕ)) → starts_after n (gap_of o) ys ≡ starts_from n (option_to_list o ++ ys)
+starts_new n None ys = refl
+starts_new n (Some e) ys = refl
 
-above : (m n : ℕ) → n < m → nat_le m n ≡ false
-above m n h = grind arith
+count_new : (o : Option (List ℕ)) → length (option_to_list (gap_of o)) ≡ length (option_to_list o)
+count_new None = refl
+count_new (Some e) = refl
 
-size_from_Part : (w : ℕ) (b : List ℕ) (xs : List (List ℕ)) → Part w b xs → 0 < length xs → size w xs ≡ length b
-size_from_Part w b [] p h = absurd (omega arith)
-size_from_Part w b (x ∷ xs) p h = ap length (sym p.1)
+bytes_new : (o : Option (List ℕ)) → length (concat (option_to_list o)) ≡ unwrap_or (gap_of o) 0
+bytes_new None = refl
+bytes_new (Some e) = omega (arith, length-append e [])
 
--- What the code asks: m is the most that a field holds, v the width, c the list's bytes.
-pub insert_seen : (w : ℕ) (b c : List ℕ) (xs : List (List ℕ)) (n v m : ℕ) (r : Bool) → Part w b xs → c ≡ b → v ≡ w → m ≡ max_of w → n < m → r ≡ (length xs == 0) → r ≡ false → nat_le (length c + n + v) m ≡ takes_insert w xs n
-insert_seen w b c [] n v m r p ec ev em h er f = absurd cc
-insert_seen w b c (x ∷ xs) n v m r p ec ev em h er f =
-    let e : nat_lt n (max_of w) ≡ true = below n (max_of w) (omega (arith, h, em)) in
-    let s : length c ≡ size w (x ∷ xs) = ap length (ec ∙ p.1) in
-    ap (λ (k : ℕ). nat_le (k + n + v) m) s ∙ (ap (λ (k : ℕ). nat_le (size w (x ∷ xs) + n + k) m) ev ∙ (ap (λ (k : ℕ). nat_le (size w (x ∷ xs) + n + w) k) em ∙ ap (λ (t : Bool). t && nat_le (size w (x ∷ xs) + n + w) (max_of w)) (sym e)))
+at_most_one : (o : Option (List ℕ)) → length (option_to_list o) ≤ 1
+at_most_one None = omega arith
+at_most_one (Some e) = omega arith
 
-not_below : (m n : ℕ) → n ≤ m → nat_lt m n ≡ false
-not_below m n h = grind arith
+-- an argument that is below m bytes, if there is one
+pub gap_below : {Q : Type 0} (f : Q → List ℕ) (value : Option (Bor Q)) (m : ℕ) → ForSome value (λ v. length (f v.now) < m) →
+    unwrap_or (gap_of (new_bytes f value)) 0 ≤ m
+gap_below f None m h = omega arith
+gap_below f (Some v) m h = omega (arith, h v refl)
 
-pub too_long : (w : ℕ) (xs : List (List ℕ)) (n m : ℕ) → m ≡ max_of w → m ≤ n → nat_lt n m ≡ takes_insert w xs n
-too_long w [] n m em h = ap (λ (k : ℕ). nat_lt n k) em
-too_long w (x ∷ xs) n m em h =
-    let e : nat_lt n (max_of w) ≡ false = not_below n (max_of w) (omega (arith, h, em)) in
-    not_below n m h ∙ ap (λ (t : Bool). t && nat_le (size w (x ∷ xs) + n + w) (max_of w)) (sym e)
+-- The count is written over the first field, as the code does it.
+pub head_written : (w n len : ℕ) (fields starts : List ℕ) {f a b c : List ℕ} → a ≡ [] → b ≡ a ++ fields → c ≡ b ++ starts → len ≡ length c → f ≡ le w n →
+    w ≤ length (fields ++ starts) → take len ((f ++ drop (length f) c) ++ drop (length (f ++ drop (length f) c)) c) ≡ le w n ++ drop w (fields ++ starts)
+head_written w n len fields starts {f} {a} {b} {c} ea eb ec el ef h =
+    let all : c ≡ fields ++ starts = ec ∙ ap (λ (l : List ℕ). l ++ starts) (eb ∙ ap (λ (l : List ℕ). l ++ fields) ea) in
+    let long : length f ≡ w = ap length ef ∙ length-le w n in
+    let whole : length (f ++ drop (length f) c) ≡ len =
+    omega (arith, length-append f (drop (length f) c), length-drop (length f) c, long, h, ap length all, el) in
+    let none : drop (length (f ++ drop (length f) c)) c ≡ [] = drop_all (length (f ++ drop (length f) c)) c (omega (arith, whole, el)) in
+    let is : f ++ drop (length f) c ≡ le w n ++ drop w (fields ++ starts) =
+    ap (λ (k : ℕ). f ++ drop k c) long ∙ (ap (λ (l : List ℕ). l ++ drop w c) ef ∙ ap (λ (l : List ℕ). le w n ++ drop w l) all) in
+    ap (λ (l : List ℕ). take len ((f ++ drop (length f) c) ++ l)) none
+    ∙ (ap (λ (l : List ℕ). take len l) (append-nil (f ++ drop (length f) c)) ∙ (take_all len (f ++ drop (length f) c) (omega (arith, whole)) ∙ is))
 
--- the length of the element at a place
-pub length_seen : (xs : List (List ℕ)) (i p q : ℕ) → i < length xs → p ≡ offset_of xs (i + 1) → q ≡ offset_of xs i → (q ≤ p) × (p - q ≡ length (get_or xs i []))
-length_seen xs i p q h ep eq =
-    let m = offset_more xs i h in
-    (omega (arith, m, ep, eq), omega (arith, m, ep, eq))
+-- from what is the same but for the first w bytes
+same_later : (w : ℕ) (a b more : List ℕ) → drop w a ≡ drop w b → length a ≡ length b → drop w (a ++ more) ≡ drop w (b ++ more)
+same_later w a b more e l = elim (cases_lt (length a) w) [
+  | inl h ↦
+      let past : (c : List ℕ) → length c ≡ length a → drop w (c ++ more) ≡ drop (w - length a) more = λ c m.
+      let k : w ≡ length c + (w - length a) = omega (arith, h, m) in
+      ap (λ (n : ℕ). drop n (c ++ more)) k ∙ drop-append-add c more (w - length a) in
+      past a refl ∙ sym (past b (sym l))
+  | inr h ↦ drop-append-le w a more h ∙ (ap (λ (l : List ℕ). l ++ more) e ∙ sym (drop-append-le w b more (omega (arith, h, l))))
+]
 
-module _ (w : ℕ) (b c : List ℕ) (xs : List (List ℕ)) (n m o old : ℕ) (p : Part w b xs) (ec : c ≡ b) (some : 0 < length xs) (em : m ≡ max_of w) (h : n < m) (eo : o ≡ old) where
-  low : nat_lt n (max_of w) ≡ true
-  low = below n (max_of w) (omega (arith, h, em))
+-- A change as the code makes it: of xs, which the bytes b stand for, the elements from i up to j give way to o.
+pub record IsChange (w : ℕ) (b : List ℕ) (xs : List (List ℕ)) (i j : ℕ) (o : Option (List ℕ)) : Type 0 where
+  pub stands : Part w b xs
+  pub order : i ≤ j
+  pub inside : j ≤ length xs
+  pub can : codable w (splice xs i j (option_to_list o)) ≡ true
 
-  pub shorter_seen : n ≤ o → nat_le n o ≡ takes_replace w xs old n
-  shorter_seen k =
-      let e : nat_le n old ≡ true = at_most n old (omega (arith, eo, k)) in
-      let f : nat_le n o ≡ true = at_most n o k in
-      f ∙ sym (rw (low, e) refl)
+-- What the code has of it: how many elements there will be, the list, the gap, and what stays.
+pub record IsSeen (w : ℕ) (b : List ℕ) (xs : List (List ℕ)) (i j : ℕ) (o : Option (List ℕ)) (n : ℕ) (ps : List (List ℕ)) (g : Option ℕ) (fs ds es : List ℕ) :
+    Type 0 where
+  pub change : IsChange w b xs i j o
+  pub list : ps ≡ xs
+  pub gap : g ≡ gap_of o
+  pub count : n ≡ length ps - (j - i) + length (option_to_list g)
+  pub fields : fs ≡ take (w * i) b
+  pub before : ds ≡ concat (take i xs)
+  pub after : es ≡ concat (drop j xs)
 
-  pub longer_seen : o < n → nat_le (length c + n) (m + o) ≡ takes_replace w xs old n
-  longer_seen k =
-      let e : nat_le n old ≡ false = above n old (omega (arith, eo, k)) in
-      let s : length c ≡ size w xs = ap length ec ∙ sym (size_from_Part w b xs p some) in
-      ap (λ (j : ℕ). nat_le (j + n) (m + o)) s ∙ (ap (λ (j : ℕ). nat_le (size w xs + n) (j + o)) em ∙ (ap (λ (j : ℕ). nat_le (size w xs + n) (max_of w + j)) eo ∙ sym (rw (low, e) refl)))
+module _ {w : ℕ} {b : List ℕ} {xs : List (List ℕ)} {i j : ℕ} {o : Option (List ℕ)} (k : IsChange w b xs i j o) where
+  abbrev new : List (List ℕ)
+  new = option_to_list o
 
--- A splice is an insertion or a replacement.
-pub spliced_insert : (xs : List (List ℕ)) (i : ℕ) (e : List ℕ) → spliced xs i 0 e ≡ insert xs i e
-spliced_insert xs i e = ap (λ (k : ℕ). take i xs ++ e ∷ drop k xs) (omega arith)
+  abbrev ys : List (List ℕ)
+  ys = splice xs i j new
 
-spliced_suc : (xs : List (List ℕ)) (i : ℕ) (e : List ℕ) → i < length xs → take i xs ++ e ∷ drop (suc i) xs ≡ set xs i e
-spliced_suc [] i e h = absurd (omega arith)
-spliced_suc (x ∷ xs) zero e h = refl
-spliced_suc (x ∷ xs) (suc i) e h = ap (λ (l : List (List ℕ)). x ∷ l) (spliced_suc xs i e (omega arith))
+  abbrev later : List ℕ
+  later = starts_from (offset_of xs i) (new ++ drop j xs)
 
-pub spliced_set : (xs : List (List ℕ)) (i : ℕ) (e : List ℕ) → i < length xs → spliced xs i 1 e ≡ set xs i e
-spliced_set xs i e h = let k : i + 1 ≡ suc i = omega arith in ap (λ (j : ℕ). take i xs ++ e ∷ drop j xs) k ∙ spliced_suc xs i e h
+  pub length_is : length xs - (j - i) + length new ≡ length ys
+  length_is = omega (
+    arith,
+    length_between (take i xs) new (drop j xs),
+    length-take-le i xs (omega (arith, k.order, k.inside)),
+    length-drop j xs,
+    k.order,
+    k.inside,
+  )
 
-module _ (w : ℕ) (some : 0 < w) (small : w ≤ 4) (narrow : 256 ^ w ≤ 2 ^ 32) where
-  insert_short : (xs : List (List ℕ)) (i : ℕ) (e : List ℕ) → i ≤ length xs → takes_insert w xs (length e) ≡ true → size w (insert xs i e) < 2 ^ 64
-  insert_short [] zero e h t =
-      let k : length e < max_of w = grind arith in
-      let p = power_some w in
-      let m : size w (e ∷ []) ≡ w * 1 + length (concat (e ∷ [])) = size_of w some narrow (e ∷ []) (omega arith) in
-      omega (arith, m, mul-one w, k, p, narrow, small, concat_insert w some narrow [] 0 e h)
-  insert_short [] (suc i) e h t = absurd (omega arith)
-  insert_short (x ∷ xs) i e h t =
-      let k : size w (x ∷ xs) + length e + w ≤ max_of w = taken (size w (x ∷ xs) + length e + w) (max_of w) (both (nat_lt (length e) (max_of w)) _ t).1 in
-      let p = power_some w in
-      let l = length-insert (x ∷ xs) i e h in
-      let m = more_times w some narrow (length (x ∷ xs)) (length (insert (x ∷ xs) i e)) l in
-      omega (arith, k, p, m, narrow, size_of w some narrow (insert (x ∷ xs) i e) (omega (arith, l)), size_of w some narrow (x ∷ xs) (omega arith), concat_insert w some narrow (x ∷ xs) i e h)
+  pub later_fit : AreBelow (256 ^ w) (offset_of xs i) (new ++ drop j xs)
+  later_fit =
+      let z : 0 + offset_of xs i ≡ offset_of xs i = omega arith in
+      subst (λ (n : ℕ). AreBelow (256 ^ w) n (new ++ drop j xs)) z (below_later (256 ^ w) 0 (take i xs) (new ++ drop j xs) (fields_fit w ys k.can).starts)
 
-  replace_short : (xs : List (List ℕ)) (i : ℕ) (e : List ℕ) → i < length xs → size w xs < 2 ^ 63 → takes_replace w xs (length (get_or xs i [])) (length e) ≡ true → size w (set xs i e) < 2 ^ 64
-  replace_short xs i e h q t =
-      let k : length e < max_of w = grind arith in
-      let p = power_some w in
-      let l : length (set xs i e) ≡ length xs = length-set xs i e in
-      let m : w * length (set xs i e) ≡ w * length xs = ap (λ (n : ℕ). w * n) l in
-      omega (arith, k, p, m, q, narrow, concat_set w some narrow xs i e h, size_of w some narrow (set xs i e) (omega (arith, l, h)), size_of w some narrow xs (omega (arith, h)))
+  fields_of_ys : fields_of w ys ≡ fields_of w (take i xs) ++ flat_map (le w) later
+  fields_of_ys =
+      let z : 0 + offset_of xs i ≡ offset_of xs i = omega arith in
+      ap (λ (l : List ℕ). flat_map (le w) l) (starts_from-append 0 (take i xs) (new ++ drop j xs)
+      ∙ ap (λ (n : ℕ). starts_from 0 (take i xs) ++ starts_from n (new ++ drop j xs)) z)
+      ∙ flat_map-append (le w) (starts_from 0 (take i xs)) later
 
-  pub place_insert : (xs : List (List ℕ)) (i n : ℕ) → i ≤ length xs → takes_insert w xs n ≡ true → HasPlace w xs i 0 n
-  place_insert xs i n h t =
-      let asked : (e : List ℕ) → length e ≡ n → takes_insert w xs (length e) ≡ true = λ e q. ap (λ (k : ℕ). takes_insert w xs k) q ∙ t in
-      record {
-        can = λ e q. ap (λ (l : List (List ℕ)). codable w l) (spliced_insert xs i e) ∙ insert_codable w some narrow xs i e h (asked e q);
-        short = λ e q. subst (λ (l : List (List ℕ)). size w l < 2 ^ 64) (sym (spliced_insert xs i e)) (insert_short xs i e h (asked e q));
-      }
+  length_fields : length (take (w * i) b) ≡ w * i
+  length_fields =
+      let m : w * i ≤ w * length xs = mul-le-mul_left w (omega (arith, k.order, k.inside)) in
+      length-take-le (w * i) b (omega (arith, m, (holds w b xs k.stands).room))
 
-  pub place_replace : (b : List ℕ) (xs : List (List ℕ)) (i n : ℕ) → Part w b xs → length b < 2 ^ 63 → i < length xs → takes_replace w xs (length (get_or xs i [])) n ≡ true → HasPlace w xs i 1 n
-  place_replace b xs i n p s h t =
-      let asked : (e : List ℕ) → length e ≡ n → takes_replace w xs (length (get_or xs i [])) (length e) ≡ true = λ e q. ap (λ (k : ℕ). takes_replace w xs (length (get_or xs i [])) k) q ∙ t in
-      let z : size w xs < 2 ^ 63 = omega (arith, s, size_from_Part w b xs p (omega (arith, h))) in
-      record {
-        can = λ e q. ap (λ (l : List (List ℕ)). codable w l) (spliced_set xs i e h) ∙ replace_codable w some narrow xs i e h (codable_from_Part w b xs p) (asked e q);
-        short = λ e q. subst (λ (l : List (List ℕ)). size w l < 2 ^ 64) (sym (spliced_set xs i e h)) (replace_short xs i e h z (asked e q));
-      }
+  -- the fields, in the first of which the count is yet to stand
+  fields_are : drop w (take (w * i) b ++ flat_map (le w) later) ≡ drop w (fields_of w ys)
+  fields_are =
+      let h : i ≤ length xs = omega (arith, k.order, k.inside) in
+      let l : length (fields_of w (take i xs)) ≡ w * i = length-fields_of w (take i xs) ∙ ap (λ (n : ℕ). w * n) (length-take-le i xs h) in
+      same_later w (take (w * i) b) (fields_of w (take i xs)) (flat_map (le w) later) ((holds w b xs k.stands).fields i h) (length_fields ∙ sym l)
+      ∙ ap (λ (l : List ℕ). drop w l) (sym fields_of_ys)
 
-all_taken : (K : List ℕ → Option UleError) (xs : List (List ℕ)) (i : ℕ) → AreValid K xs → AreValid K (take i xs)
-all_taken K xs zero v = tt
-all_taken K [] (suc i) v = tt
-all_taken K (x ∷ xs) (suc i) v = (v.0, all_taken K xs i v.1)
+  pub fields_length : length (take (w * i) b ++ flat_map (le w) later) ≡ w * length ys
+  fields_length =
+      let h : i ≤ length xs = omega (arith, k.order, k.inside) in
+      let l : length (fields_of w (take i xs)) ≡ w * i = length-fields_of w (take i xs) ∙ ap (λ (n : ℕ). w * n) (length-take-le i xs h) in
+      omega (
+        arith,
+        length_fields,
+        l,
+        length-append (take (w * i) b) (flat_map (le w) later),
+        ap length fields_of_ys,
+        length-append (fields_of w (take i xs)) (flat_map (le w) later),
+        length-fields_of w ys,
+      )
 
-all_dropped : (K : List ℕ → Option UleError) (xs : List (List ℕ)) (i : ℕ) → AreValid K xs → AreValid K (drop i xs)
-all_dropped K xs zero v = v
-all_dropped K [] (suc i) v = tt
-all_dropped K (x ∷ xs) (suc i) v = all_dropped K xs i v.1
+  pub encoded : 0 < length ys → (le w (length ys) ++ drop w (take (w * i) b ++ flat_map (le w) later))
+      ++ (concat (take i xs) ++ (concat new ++ concat (drop j xs))) ≡ enc w ys
+  encoded h =
+      let joined : concat ys ≡ concat (take i xs) ++ (concat new ++ concat (drop j xs)) = concat-append (take i xs) (new ++ drop j xs)
+      ∙ ap (λ (l : List ℕ). concat (take i xs) ++ l) (concat-append new (drop j xs)) in
+      ap (λ (l : List ℕ). (le w (length ys) ++ l) ++ (concat (take i xs) ++ (concat new ++ concat (drop j xs)))) fields_are
+      ∙ (ap (λ (l : List ℕ). (le w (length ys) ++ drop w (fields_of w ys)) ++ l) (sym joined) ∙ sym (enc_fields w ys h))
 
-all_joined : (K : List ℕ → Option UleError) (xs ys : List (List ℕ)) → AreValid K xs → AreValid K ys → AreValid K (xs ++ ys)
-all_joined K [] ys v u = u
-all_joined K (x ∷ xs) ys v u = (v.0, all_joined K xs ys v.1 u)
+  -- the bytes that stay, the fields of as many elements as before, and those of one more
+  pub room : w * length xs + (offset_of xs i + length (concat (drop j xs))) ≤ length b
+  room = omega (
+    arith,
+    (holds w b xs k.stands).room,
+    offset_rises xs i j k.order,
+    ap length (concat_parts xs j),
+    length-append (concat (take j xs)) (concat (drop j xs)),
+  )
 
--- The bytes are the encoding of ys, and read as that.
-pub record Made (w : ℕ) (K : List ℕ → Option UleError) (bytes : List ℕ) (ys : List (List ℕ)) : Type 0 where
-  pub is : bytes ≡ enc w ys
-  pub sound : list_fault w K bytes ≡ None
-  pub reads : elements w bytes ≡ ys
+module _ {w : ℕ} {b : List ℕ} {xs : List (List ℕ)} {i j : ℕ} {o : Option (List ℕ)} {n : ℕ} {ps : List (List ℕ)} {gap : Option ℕ} {fields before after : List ℕ}
+    (s : IsSeen w b xs i j o n ps gap fields before after) where
+  pub count_seen : n ≡ length (splice xs i j (option_to_list o))
+  count_seen =
+      let g : length (option_to_list gap) ≡ length (option_to_list o) = ap (λ (g : Option ℕ). length (option_to_list g)) s.gap ∙ count_new o in
+      omega (arith, s.count, ap length s.list, g, length_is s.change)
 
--- the bytes are the encoding of the list that they are read as
-pub encoded : {w : ℕ} {K : List ℕ → Option UleError} {bytes : List ℕ} {ys : List (List ℕ)} → Made w K bytes ys → (l : List (List ℕ)) → l ≡ elements w bytes → bytes ≡ enc w l
-encoded {w} m l e = m.is ∙ ap (λ (k : List (List ℕ)). enc w k) (sym (e ∙ m.reads))
+  pub starts_seen : starts_after (length before) gap (drop j ps) ≡ starts_from (offset_of xs i) (option_to_list o ++ drop j xs)
+  starts_seen =
+      ap (λ (l : List ℕ). starts_after (length l) gap (drop j ps)) s.before
+      ∙ (ap (λ (g : Option ℕ). starts_after (offset_of xs i) g (drop j ps)) s.gap
+      ∙ (ap (λ (l : List (List ℕ)). starts_after (offset_of xs i) (gap_of o) (drop j l)) s.list ∙ starts_new (offset_of xs i) o (drop j xs)))
 
-module _ (w : ℕ) (some : 0 < w) (K : List ℕ → Option UleError) (bytes : List ℕ) where
-  made : (ys : List (List ℕ)) → bytes ≡ enc w ys → codable w ys ≡ true → AreValid K ys → Made w K bytes ys
-  made ys e c v = record {
-    is = e;
-    sound = ap (λ (b : List ℕ). list_fault w K b) e ∙ fault-enc w K ys some c v;
-    reads = ap (λ (b : List ℕ). elements w b) e ∙ elements-enc w ys some c;
-  }
+  pub fit_seen : AllByRecursion (λ s. s < 256 ^ w) (starts_after (length before) gap (drop j ps))
+  fit_seen = subst (λ (l : List ℕ). AllByRecursion (λ s. s < 256 ^ w) l) (sym starts_seen) (later_fit s.change)
 
-  module _ (xs : List (List ℕ)) (v : AreValid K xs) (i : ℕ) where
-    made_spliced : (d : ℕ) (e : List ℕ) → HasPlace w xs i d (length e) → K e ≡ None → bytes ≡ enc w (spliced xs i d e) → Made w K bytes (spliced xs i d e)
-    made_spliced d e h k q = made (spliced xs i d e) q (h.can e refl) (all_joined K (take i xs) (e ∷ drop (i + d) xs) (all_taken K xs i v) (k, all_dropped K xs (i + d) v))
+  pub count_fits : n < 256 ^ w
+  count_fits = omega (arith, count_seen, (fields_fit w _ s.change.can).count)
 
-    pub made_insert : (e : List ℕ) → HasPlace w xs i 0 (length e) → K e ≡ None → bytes ≡ enc w (spliced xs i 0 e) → Made w K bytes (insert xs i e)
-    made_insert e h k q = subst (λ (l : List (List ℕ)). Made w K bytes l) (spliced_insert xs i e) (made_spliced 0 e h k q)
+  head_seen : fields ++ flat_map (le w) (starts_after (length before) gap (drop j ps)) ≡ take (w * i) b
+      ++ flat_map (le w) (starts_from (offset_of xs i) (option_to_list o ++ drop j xs))
+  head_seen = ap (λ (l : List ℕ). l ++ flat_map (le w) (starts_after (length before) gap (drop j ps))) s.fields
+      ∙ ap (λ (l : List ℕ). take (w * i) b ++ flat_map (le w) l) starts_seen
 
-    pub made_replace : (e : List ℕ) → i < length xs → HasPlace w xs i 1 (length e) → K e ≡ None → bytes ≡ enc w (spliced xs i 1 e) → Made w K bytes (set xs i e)
-    made_replace e z h k q = subst (λ (l : List (List ℕ)). Made w K bytes l) (spliced_set xs i e z) (made_spliced 1 e h k q)
+  pub head_length : length (fields ++ flat_map (le w) (starts_after (length before) gap (drop j ps))) ≡ w * n
+  head_length = ap length head_seen ∙ (fields_length s.change ∙ ap (λ (n : ℕ). w * n) (sym count_seen))
 
-    pub made_remove : (b : List ℕ) → 256 ^ w ≤ 2 ^ 32 → Part w b xs → bytes ≡ enc w (remove xs i) → Made w K bytes (remove xs i)
-    made_remove b narrow p q = made (remove xs i) q (remove_codable w some narrow xs i (codable_from_Part w b xs p)) (all_joined K (take i xs) (drop (suc i) xs) (all_taken K xs i v) (all_dropped K xs (suc i) v))
+  pub head_some : (n ≡ 0 → ⊥) → w ≤ length (fields ++ flat_map (le w) (starts_after (length before) gap (drop j ps)))
+  head_some h =
+      let k : n ≡ suc (n - 1) = omega (arith, h) in
+      omega (arith, head_length, ap (λ (n : ℕ). w * n) k, mul-suc w (n - 1))
+
+  pub bytes_seen : (n ≡ 0 → ⊥) → {head bytes : List ℕ} → head ≡ le w n ++ drop w (fields ++ flat_map (le w) (starts_after (length before) gap (drop j ps))) →
+      bytes ≡ head ++ (before ++ (concat (option_to_list o) ++ after)) → bytes ≡ enc w (splice xs i j (option_to_list o))
+  bytes_seen h {head} {bytes} eh eb =
+      let new : List ℕ = concat (option_to_list o) in
+      let rest : List ℕ = before ++ (new ++ after) in
+      eb ∙ (ap (λ (l : List ℕ). l ++ rest) (eh ∙
+      (ap (λ (l : List ℕ). le w n ++ drop w l) head_seen
+      ∙ ap (λ (n : ℕ). le w n ++ drop w (take (w * i) b ++ flat_map (le w) (starts_from (offset_of xs i) (option_to_list o ++ drop j xs)))) count_seen))
+      ∙ (ap (λ (l : List ℕ). (le w (length (splice xs i j (option_to_list o)))
+      ++ drop w (take (w * i) b ++ flat_map (le w) (starts_from (offset_of xs i) (option_to_list o ++ drop j xs)))) ++ (l ++ (new ++ after))) s.before
+      ∙ (ap (λ (l : List ℕ). (le w (length (splice xs i j (option_to_list o)))
+      ++ drop w (take (w * i) b ++ flat_map (le w) (starts_from (offset_of xs i) (option_to_list o ++ drop j xs))))
+      ++ (concat (take i xs) ++ (new ++ l))) s.after
+      ∙ encoded s.change (omega (arith, h, count_seen)))))
+
+  pub total_seen : (v u : ℕ) → v ≡ w → u ≡ unwrap_or gap 0 → u < 2 ^ 32 → length b < 2 ^ 63 → w ≤ 4 → v * n + (length before + u + length after) < 2 ^ 64
+  total_seen v u ev eu small short narrow =
+      let one : length (option_to_list o) ≤ 1 = at_most_one o in
+      let c : n ≤ suc (length xs) = omega (arith, count_seen, length_is s.change, one) in
+      let m : w * n ≤ w * suc (length xs) = mul-le-mul_left w c in
+      let p : v * n ≡ w * n = ap (λ (v : ℕ). v * n) ev in
+      omega (arith, p, m, mul-suc w (length xs), room s.change, ap length s.before, ap length s.after)
+
+  pub room_seen : (n ≡ 0 → ⊥) → (head : List ℕ) (u : ℕ) → head ≡ le w n ++ drop w (fields ++ flat_map (le w) (starts_after (length before) gap (drop j ps))) →
+      u ≡ unwrap_or gap 0 → w * n + (length before + u + length after) < 2 ^ 64 → length head + length before + length (concat (option_to_list o)) < 2 ^ 64
+  room_seen h head u e eu total =
+      let all : List ℕ = fields ++ flat_map (le w) (starts_after (length before) gap (drop j ps)) in
+      let g : length (concat (option_to_list o)) ≡ unwrap_or gap 0 = bytes_new o ∙ ap (λ (g : Option ℕ). unwrap_or g 0) (sym s.gap) in
+      omega (arith, total, g, eu, ap length e, length-append (le w n) (drop w all), length-le w n, length-drop w all, head_length, head_some h)
+
+  pub none_left : n ≡ 0 → [] ≡ enc w (splice xs i j (option_to_list o))
+  none_left h = no_elements w (splice xs i j (option_to_list o)) (omega (arith, h, count_seen)) where
+    no_elements : (w : ℕ) (ys : List (List ℕ)) → length ys ≡ 0 → [] ≡ enc w ys
+    no_elements w [] e = refl
+    no_elements w (y ∷ ys) e = absurd (omega arith)

@@ -1,12 +1,15 @@
 -- Worked examples of the size rule.
-use Rattle.std.specs.Prelude.{◌≡◌, ℕ, List, [], ◌∷◌, replicate, true, false}
+use Rattle.std.specs.Prelude.{◌≡◌, ℕ, List, [], ◌∷◌, replicate, true, false, Ok, Err}
+use Rattle.zv_owned.specs.Owned.{TooLargeUnless}
 use Rattle.zv_owned.specs.Size.{takes_insert, takes_pushes, takes_replace}
+use Rattle.zv_owned.specs.declared.error.VecError.TheVariants.{TooLarge, Memory}
 
 -- the list of one element of n bytes
 abbrev pub one_of : ℕ → List (List ℕ)
 one_of n = replicate n 97 ∷ []
 
--- with fields of two bytes, a field holds at most 65,535: an empty list takes an element of one byte less
+-- with fields of two bytes, a field holds at most 65,535: an empty list takes an element of one
+-- byte less
 abbrev pub EmptyTakesBelowMost : Type 0
 EmptyTakesBelowMost = takes_insert 2 [] 65534 ≡ true
 
@@ -50,10 +53,23 @@ FullTakesSameSize = takes_replace 1 (one_of 254) 254 254 ≡ true
 abbrev pub three_of : ℕ → List (List ℕ)
 three_of n = replicate 100 97 ∷ replicate 100 97 ∷ replicate n 97 ∷ []
 
--- with fields of one byte, those of 100, 100 and 52 bytes are taken one after another: they make a list of 255 bytes
+-- with fields of one byte, those of 100, 100 and 52 bytes are taken one after another: they make a
+-- list of 255 bytes
 abbrev pub ThreeAreTaken : Type 0
 ThreeAreTaken = takes_pushes (takes_insert 1) [] (three_of 52) ≡ true
 
 -- and not with one byte more
 abbrev pub ThirdIsRefused : Type 0
 ThirdIsRefused = takes_pushes (takes_insert 1) [] (three_of 53) ≡ false
+
+-- a change that the rule takes is made
+abbrev pub TakenIsOk : Type 0
+TakenIsOk = TooLargeUnless {A = ℕ} true (Ok 0)
+
+-- or it wants memory
+abbrev pub TakenMayWantMemory : Type 0
+TakenMayWantMemory = TooLargeUnless {A = ℕ} true (Err Memory)
+
+-- and one that the rule does not take is too large
+abbrev pub NotTakenIsTooLarge : Type 0
+NotTakenIsTooLarge = TooLargeUnless {A = ℕ} false (Err TooLarge)

@@ -1,7 +1,7 @@
-pub mod Anew
 pub mod Examples
 pub mod Laws
 pub mod Lending
 pub mod Owned
 pub mod Size
+pub mod Splices
 pub mod Vectors

@@ -2,7 +2,7 @@
 use Rattle.std.specs.Prelude.{ℕ, List, Bool, Option, Some, None, is_some}
 use Rattle.zv_ule.specs.declared.kind.ZvKind.{Ghosts as KindGhosts}
 use Rattle.zv_ule.specs.declared.element.ULE.{Ghosts as UleGhosts}
-use Rattle.zv_ule.specs.declared.format.IntegerULE.{Ghosts as IntegerGhosts}
+use Rattle.zv_ule.specs.declared.format.integer.IntegerULE.{Ghosts as IntegerGhosts}
 use Rattle.zv_ule.specs.declared.format.VarZeroVecFormat.{Ghosts as FormatGhosts}
 use Rattle.zv_var.specs.Views.{bytes_of, list_of}
 use Rattle.zv_owned.specs.Owned.{Owned}
@@ -21,7 +21,9 @@ abbrev pub spare_in : Option Owned → ℕ
 spare_in None = 0
 spare_in (Some v) = v.spare
 
-module _ {T F Index Len : Type 0} {kind : KindGhosts T} {format : FormatGhosts F Index Len} {i : IntegerGhosts Index} {iu : UleGhosts Index} {l : IntegerGhosts Len} {lu : UleGhosts Len} where
+module _ {T F Index Len : Type 0} {kind : KindGhosts T} {format : FormatGhosts F Index Len}
+    {i : IntegerGhosts Index} {iu : UleGhosts Index} {l : IntegerGhosts Len}
+    {lu : UleGhosts Len} where
   -- the byte strings of the elements
   abbrev pub vector_list : VarZeroVec T F Index Len kind format i iu l lu → List (List ℕ)
   vector_list v = list_in v.slot (list_of v.view)

@@ -1,23 +1,23 @@
-// Why a change was refused.
+// Why a list did not take an element.
 ghost use Rattle.std.specs.Prelude.{◌≡◌};
 ghost use Rattle.zv_owned.specs.declared.error.VecError.TheVariants.{Memory};
 
-use zv_ule::error::NoMemory;
+use zv_ule::NoMemory;
 
-/// Why an element did not join a list. The list is as it was.
+/// Why a list did not take an element. The list is as it was.
 #[derive(Clone, Copy, Debug, PartialEq, Eq)]
 pub enum VecError {
     /// The element has no spelling, or the list would outgrow its format.
     TooLarge,
-    /// Memory was asked for and not given.
+    /// No memory was given.
     Memory,
 }
 
 impl From<NoMemory> for VecError {
+    ghost from_gives = { λ _ e. e ≡ Memory };
+
     #[inline]
-    fn from(_error: NoMemory) -> Self
-        ensures { result ≡ Memory }
-    {
+    fn from(_error: NoMemory) -> Self {
         VecError::Memory
     }
 }

@@ -1,9 +1,15 @@
 // What the size rule means: worked examples, and laws. Each call does nothing, and its contract is
 // what it is for.
-ghost use Rattle.zv_owned.specs.Examples.{EmptyRefusesMost, EmptyTakesBelowMost, FullTakesNone, FullTakesSameSize, LongerSecondIsRefused, OnlyGivesWay, OnlyStays, SecondIsTaken, ShortRefusesMost, ShortTakesBelowMost, ThirdIsRefused, ThreeAreTaken};
-ghost use Rattle.zv_owned.specs.Laws.{AnyOrder, InsertKeeps, RemoveKeeps, ReplaceKeeps, ShorterIsTaken};
+ghost use Rattle.zv_owned.specs.Examples.{EmptyRefusesMost, EmptyTakesBelowMost, FullTakesNone};
+ghost use Rattle.zv_owned.specs.Examples.{FullTakesSameSize, LongerSecondIsRefused};
+ghost use Rattle.zv_owned.specs.Examples.{NotTakenIsTooLarge, OnlyGivesWay, OnlyStays};
+ghost use Rattle.zv_owned.specs.Examples.{SecondIsTaken, ShortRefusesMost, ShortTakesBelowMost};
+ghost use Rattle.zv_owned.specs.Examples.{TakenIsOk, TakenMayWantMemory, ThirdIsRefused};
+ghost use Rattle.zv_owned.specs.Examples.{ThreeAreTaken};
+ghost use Rattle.zv_owned.specs.Laws.{AnyOrder, InsertKeeps, RemoveKeeps, ReplaceKeeps};
+ghost use Rattle.zv_owned.specs.Laws.{ShorterIsTaken};
 
-/// Elements at the edge of what a list takes.
+/// Elements at the edge of what a list takes, and what is answered where one is taken or not.
 pub fn sizes_by_hand()
     ensures empty_takes_below_most { EmptyTakesBelowMost }
     ensures empty_refuses_most { EmptyRefusesMost }
@@ -17,6 +23,9 @@ pub fn sizes_by_hand()
     ensures full_takes_same_size { FullTakesSameSize }
     ensures three_taken { ThreeAreTaken }
     ensures third_refused { ThirdIsRefused }
+    ensures taken_ok { TakenIsOk }
+    ensures taken_wants_memory { TakenMayWantMemory }
+    ensures not_taken_too_large { NotTakenIsTooLarge }
 {}
 
 /// A list that can be written still can after each change that the size rule takes, and after any

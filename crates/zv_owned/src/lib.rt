@@ -4,11 +4,13 @@
 //! encoding of the changed list. [`VarZeroVec`] is a view or an owned list.
 #![tactic(auto)]
 
-mod anew;
 mod changes;
+mod encode;
+mod encoded;
 pub mod error;
 pub mod laws;
 pub mod owned;
+mod size;
 pub mod vector;
 
 pub use error::VecError;

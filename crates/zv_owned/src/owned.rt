@@ -1,8 +1,10 @@
 // A list in a format that owns its bytes.
-ghost use Rattle.std.specs.Prelude.{◌≡◌, ℕ, ◌==◌, ◌∷◌, ◌++◌, ◌&&◌, ◌+◌, ◌^◌, ◌<◌, ◌≤◌, ◌⊎◌, ◌↔◌, [], length, set, slice_index_or, slice_range, Option, None, IsTrue, IfOk, OnOk, OnErr, IfSome, IsNone};
+ghost use Rattle.std.specs.Prelude.{◌≡◌, ℕ, ◌==◌, ◌∷◌, ◌++◌, ◌&&◌, ◌+◌, ◌^◌, ◌<◌, ◌≤◌, ◌↔◌};
+ghost use Rattle.std.specs.Prelude.{[], length, set, slice_index_or, Option, None};
+ghost use Rattle.std.specs.Prelude.{IsTrue, IfOk, OnOk, OnErr, IfSome, IsNone};
 ghost use Rattle.std.specs.List.{insert, remove, slice_get};
 ghost use Rattle.std.specs.Option.{option_map};
-ghost use Rattle.zv_ule.specs.Search.{Found, compared};
+ghost use Rattle.zv_ule.specs.Search.{Found, FoundIn, IsOutside, compared};
 ghost use Rattle.zv_ule.specs.Views.{element_of};
 ghost use Rattle.zv_var.specs.Format.{enc, elements, list_fault};
 ghost use Rattle.zv_var.specs.Iters.{left_of};
@@ -10,19 +12,16 @@ ghost use Rattle.zv_var.specs.Views.{bytes_of, list_of};
 ghost use Rattle.zv_owned.specs.Owned.{TooLargeUnless};
 ghost use Rattle.zv_owned.specs.Size.{takes_insert, takes_replace};
 
-use crate::changes::{
-    inserted, inserted_arg, removed, replaced, replaced_arg, takes_another, takes_instead,
-};
+use crate::changes::{insert_into, remove_from, replace_in};
+use crate::encoded::Encoded;
 use crate::error::VecError;
+use crate::size::{takes_insert, takes_replace};
 use std::alloc::Global;
 use std::marker::{Model, PhantomData};
 use std::ops::Range;
-use zv_ule::argument::{ZvArg, ZvOrdArg};
-use zv_ule::error::NoMemory;
-use zv_ule::format::VarZeroVecFormat;
-use zv_ule::kind::{ZvKind, ZvOrd};
-use zv_ule::var::{EncodeAsVarULE, VarULE};
-use zv_ule::view::VarRef;
+use zv_ule::{
+    EncodeAsVarULE, NoMemory, VarRef, VarULE, VarZeroVecFormat, ZvArg, ZvKind, ZvOrd, ZvOrdArg,
+};
 use zv_var::iter::VarZeroSliceIter;
 use zv_var::slice::VarZeroSlice;
 
@@ -157,7 +156,7 @@ impl<T: ZvKind, F: VarZeroVecFormat> VarZeroVecOwned<T, F> {
     pub fn takes_insert(&self, len: usize) -> bool
         ensures { result ≡ takes_insert F.W self.now.list len }
     {
-        takes_another(self.as_slice(), len)
+        takes_insert(self.as_slice(), len)
     }
 
     /// Whether the size rule takes an element of `len` bytes in place of the one at a place.
@@ -167,7 +166,7 @@ impl<T: ZvKind, F: VarZeroVecFormat> VarZeroVecOwned<T, F> {
         ensures { result ≡ takes_replace F.W self.now.list
             (length (slice_index_or self.now.list index [])) len }
     {
-        takes_instead(self.as_slice(), index, len)
+        takes_replace(self.as_slice(), index, len)
     }
 
     /// Puts what is written for a value before the element at a place, or at the end.
@@ -184,7 +183,7 @@ impl<T: ZvKind, F: VarZeroVecFormat> VarZeroVecOwned<T, F> {
         ensures refused { TooLargeUnless (takes_insert F.W self.old.list
             (length (Q.bytes value.now))) result }
     {
-        *self = inserted_arg(*self.bytes.allocator(), self.as_slice(), index, value)?;
+        *self = insert_into(*self.bytes.allocator(), self.as_slice(), index, value)?;
         Ok(())
     }
 
@@ -203,7 +202,7 @@ impl<T: ZvKind, F: VarZeroVecFormat> VarZeroVecOwned<T, F> {
             (length (slice_index_or self.old.list index []))
             (length (Q.bytes value.now))) result }
     {
-        *self = replaced_arg(*self.bytes.allocator(), self.as_slice(), index, value)?;
+        *self = replace_in(*self.bytes.allocator(), self.as_slice(), index, value)?;
         Ok(())
     }
 
@@ -216,7 +215,7 @@ impl<T: ZvKind, F: VarZeroVecFormat> VarZeroVecOwned<T, F> {
         ensures bytes { OnOk result (self.new.bytes ≡ enc F.W self.new.list) }
         ensures err { OnErr result (self.new ≡ self.old) }
     {
-        *self = removed(*self.bytes.allocator(), self.as_slice(), index)?;
+        *self = remove_from(*self.bytes.allocator(), self.as_slice(), index)?;
         Ok(())
     }
 
@@ -270,8 +269,8 @@ impl<T: VarULE, F: VarZeroVecFormat> VarZeroVecOwned<T, F> {
         ensures refused { TooLargeUnless (A.fits element.now && takes_insert F.W self.old.list
             (length (A.spelling element.now))) result }
     {
-        *self = inserted(*self.bytes.allocator(), self.as_slice(), index, element)?;
-        Ok(())
+        let value = Encoded::for_list(self.as_slice(), element).ok_or(VecError::TooLarge)?;
+        self.insert_arg(index, &value)
     }
 
     /// Puts a value's spelling at the end, as [`insert`](Self::insert).
@@ -308,8 +307,8 @@ impl<T: VarULE, F: VarZeroVecFormat> VarZeroVecOwned<T, F> {
             (length (slice_index_or self.old.list index []))
             (length (A.spelling element.now))) result }
     {
-        *self = replaced(*self.bytes.allocator(), self.as_slice(), index, element)?;
-        Ok(())
+        let value = Encoded::for_list(self.as_slice(), element).ok_or(VecError::TooLarge)?;
+        self.replace_arg(index, &value)
     }
 }
 
@@ -322,10 +321,9 @@ impl<T: ZvOrd, F: VarZeroVecFormat> VarZeroVecOwned<T, F> {
         range: Range<usize>,
     ) -> Option<Result<usize, usize>>
         requires below { length (Q.bytes needle.now) < 2 ^ 64 }
-        ensures none { IsNone result ↔
-            ((length self.now.list < range.end) ⊎ (range.end < range.start)) }
-        ensures found { IfSome result (Found (slice_range
-            (compared T.cmp self.now.list (Q.bytes needle.now)) range.start range.end)) }
+        ensures none { IsNone result ↔ IsOutside range (length self.now.list) }
+        ensures found { IfSome result
+            (FoundIn (compared T.cmp self.now.list (Q.bytes needle.now)) range) }
     {
         self.as_slice().binary_search_in_range(needle, range)
     }

@@ -1,9 +1,12 @@
 // A list in a format that is borrowed, or owns its bytes.
-ghost use Rattle.std.specs.Prelude.{◌≡◌, ⊤, ℕ, ◌==◌, ◌&&◌, ◌+◌, ◌^◌, ◌<◌, ◌≤◌, ◌⊎◌, ◌↔◌, [], length, set, slice_index_or, slice_range, Option, None, Some, IsTrue, IfOk, OnOk, OnErr, IfSome, IsNone, IsOk, true, false, is_some, not};
+ghost use Rattle.std.specs.Prelude.{◌≡◌, ⊤, ℕ, ◌==◌, ◌&&◌, ◌+◌, ◌^◌, ◌<◌, ◌≤◌, ◌↔◌, []};
+ghost use Rattle.std.specs.Prelude.{length, set, slice_index_or, Option, None, Some};
+ghost use Rattle.std.specs.Prelude.{IsTrue, IfOk, OnOk, OnErr, IfSome, IsNone, IsOk, true, false};
+ghost use Rattle.std.specs.Prelude.{is_some, not};
 ghost use Rattle.std.specs.List.{insert, remove, slice_get};
 ghost use Rattle.std.specs.Option.{option_map};
 ghost use Rattle.std.specs.Result.{result_err};
-ghost use Rattle.zv_ule.specs.Search.{Found, compared};
+ghost use Rattle.zv_ule.specs.Search.{Found, FoundIn, IsOutside, compared};
 ghost use Rattle.zv_ule.specs.Views.{element_of};
 ghost use Rattle.zv_var.specs.Format.{elements, enc, list_fault};
 ghost use Rattle.zv_var.specs.Iters.{left_of};
@@ -12,17 +15,16 @@ ghost use Rattle.zv_var.specs.Views.{bytes_of, list_of, parts_of};
 ghost use Rattle.zv_owned.specs.Owned.{Owned, TooLargeUnless};
 ghost use Rattle.zv_owned.specs.Size.{takes_insert, takes_replace};
 
-use crate::changes::{inserted_arg, removed, replaced_arg, takes_another, takes_instead};
+use crate::changes::{insert_into, remove_from, replace_in};
 use crate::error::VecError;
 use crate::owned::VarZeroVecOwned;
+use crate::size::{takes_insert, takes_replace};
 use std::alloc::Global;
 use std::marker::Model;
 use std::ops::Range;
-use zv_ule::argument::{ZvArg, ZvOrdArg};
-use zv_ule::error::{NoMemory, UleError};
-use zv_ule::format::{Index16, Index32, VarZeroVecFormat};
-use zv_ule::kind::{ZvKind, ZvOrd};
-use zv_ule::view::VarRef;
+use zv_ule::{
+    Index16, Index32, NoMemory, UleError, VarRef, VarZeroVecFormat, ZvArg, ZvKind, ZvOrd, ZvOrdArg,
+};
 use zv_var::components::VarZeroVecComponents;
 use zv_var::iter::VarZeroSliceIter;
 use zv_var::slice::VarZeroSlice;
@@ -272,7 +274,7 @@ impl<'a, T: ZvKind, F: VarZeroVecFormat> VarZeroVec<'a, T, F> {
     pub fn takes_insert(&self, len: usize) -> bool
         ensures { result ≡ takes_insert F.W (vector_list self.now) len }
     {
-        takes_another(self.as_slice(), len)
+        takes_insert(self.as_slice(), len)
     }
 
     /// Whether the size rule of [`VarZeroVecOwned`] takes an element of `len` bytes in place of the
@@ -283,7 +285,7 @@ impl<'a, T: ZvKind, F: VarZeroVecFormat> VarZeroVec<'a, T, F> {
         ensures { result ≡ takes_replace F.W (vector_list self.now)
             (length (slice_index_or (vector_list self.now) index [])) len }
     {
-        takes_instead(self.as_slice(), index, len)
+        takes_replace(self.as_slice(), index, len)
     }
 
     /// Puts what is written for a value before the element at a place, or at the end. The list is
@@ -307,7 +309,7 @@ impl<'a, T: ZvKind, F: VarZeroVecFormat> VarZeroVec<'a, T, F> {
         ensures refused { TooLargeUnless (takes_insert F.W (vector_list self.old)
             (length (Q.bytes value.now))) result }
     {
-        let changed = inserted_arg(alloc, self.as_slice(), index, value)?;
+        let changed = insert_into(alloc, self.as_slice(), index, value)?;
         self.slot.owned = Some(changed);
         Ok(())
     }
@@ -333,7 +335,7 @@ impl<'a, T: ZvKind, F: VarZeroVecFormat> VarZeroVec<'a, T, F> {
             (length (slice_index_or (vector_list self.old) index []))
             (length (Q.bytes value.now))) result }
     {
-        let changed = replaced_arg(alloc, self.as_slice(), index, value)?;
+        let changed = replace_in(alloc, self.as_slice(), index, value)?;
         self.slot.owned = Some(changed);
         Ok(())
     }
@@ -347,7 +349,7 @@ impl<'a, T: ZvKind, F: VarZeroVecFormat> VarZeroVec<'a, T, F> {
         ensures owned { OnOk result (vector_owned self.new ≡ true) }
         ensures err { OnErr result (self.new ≡ self.old) }
     {
-        let changed = removed(alloc, self.as_slice(), index)?;
+        let changed = remove_from(alloc, self.as_slice(), index)?;
         self.slot.owned = Some(changed);
         Ok(())
     }
@@ -394,10 +396,9 @@ impl<'a, T: ZvOrd, F: VarZeroVecFormat> VarZeroVec<'a, T, F> {
         range: Range<usize>,
     ) -> Option<Result<usize, usize>>
         requires below { length (Q.bytes needle.now) < 2 ^ 64 }
-        ensures none { IsNone result ↔
-            ((length (vector_list self.now) < range.end) ⊎ (range.end < range.start)) }
-        ensures found { IfSome result (Found (slice_range
-            (compared T.cmp (vector_list self.now) (Q.bytes needle.now)) range.start range.end)) }
+        ensures none { IsNone result ↔ IsOutside range (length (vector_list self.now)) }
+        ensures found { IfSome result
+            (FoundIn (compared T.cmp (vector_list self.now) (Q.bytes needle.now)) range) }
     {
         self.as_slice().binary_search_in_range(needle, range)
     }
@@ -415,13 +416,12 @@ impl<'a, T: ZvOrd, F: VarZeroVecFormat> VarZeroVec<'a, T, F> {
 impl<'a, T: ZvKind, F: VarZeroVecFormat> From<VarZeroSlice<'a, T, F>> for VarZeroVec<'a, T, F> {
     ghost use Rattle.zv_owned.specs.Vectors.{vector_bytes, vector_list, vector_owned};
 
+    ghost from_gives = { λ view v. (vector_list v ≡ list_of view)
+        × (vector_bytes v ≡ bytes_of view) × (vector_owned v ≡ false) };
+
     /// As [`VarZeroVec::new_borrowed`].
     #[inline]
-    fn from(view: VarZeroSlice<'a, T, F>) -> Self
-        ensures list { vector_list result ≡ list_of view.entry }
-        ensures bytes { vector_bytes result ≡ bytes_of view.entry }
-        ensures owned { vector_owned result ≡ false }
-    {
+    fn from(view: VarZeroSlice<'a, T, F>) -> Self {
         VarZeroVec::new_borrowed(view)
     }
 }
@@ -429,14 +429,12 @@ impl<'a, T: ZvKind, F: VarZeroVecFormat> From<VarZeroSlice<'a, T, F>> for VarZer
 impl<'a, T: ZvKind, F: VarZeroVecFormat> From<VarZeroVecOwned<T, F>> for VarZeroVec<'a, T, F> {
     ghost use Rattle.zv_owned.specs.Vectors.{vector_bytes, vector_list, vector_owned, vector_spare};
 
+    ghost from_gives = { λ owned v. (vector_list v ≡ owned.list) × (vector_bytes v ≡ owned.bytes)
+        × (vector_spare v ≡ owned.spare) × (vector_owned v ≡ true) };
+
     /// As [`VarZeroVec::new_owned`].
     #[inline]
-    fn from(owned: VarZeroVecOwned<T, F>) -> Self
-        ensures list { vector_list result ≡ owned.list }
-        ensures bytes { vector_bytes result ≡ owned.bytes }
-        ensures spare { vector_spare result ≡ owned.spare }
-        ensures owned { vector_owned result ≡ true }
-    {
+    fn from(owned: VarZeroVecOwned<T, F>) -> Self {
         VarZeroVec::new_owned(owned)
     }
 }

@@ -6,6 +6,12 @@ mod cases;
 #[cfg(test)]
 mod changes;
 #[cfg(test)]
-mod long_values;
+mod devices;
 #[cfg(test)]
-mod tests;
+mod edit;
+#[cfg(test)]
+mod long_inputs;
+#[cfg(test)]
+mod runs;
+#[cfg(test)]
+mod worked;

@@ -1,70 +1,47 @@
--- The first line of a text, and the first word of a line, by the first byte of a kind.
-use Rattle.std.proofs.Common.{◌≡◌, ℕ, zero, suc, ◌+◌, ◌-◌, ◌<◌, ◌≤◌, ◌==◌, List, [], ◌∷◌, length, get_or, take, drop, Bool, true, false, refl, arith, add-one}
+-- The pieces of a text: its first piece, its lines, and how many words it has.
+use Rattle.std.proofs.Common.{◌≡◌, ℕ, ◌+◌, ◌-◌, ◌<◌, ◌≤◌, List, [], ◌∷◌, length, get_or, take, drop, Bool, true, false, refl, ap, ◌∙◌, subst, arith, None}
+use Rattle.std.specs.List.{slice_split, position_or_len}
 use Rattle.std.proofs.lemmas.List.{take_rest}
-use Rattle.zv_tool.specs.Input.{lines, words}
+use Rattle.std.proofs.lemmas.List.Splits.{slice_split_first, slice_split_none, length-slice_split}
+use Rattle.std.proofs.lemmas.List.Sums.{position_or_len_is, fails_before_first}
+use Rattle.memchr.specs.Find.{is_byte}
+use Rattle.zv_tool.specs.Input.{without_empty_last, lines, words, one_word}
 
 -- a test that is not true is false
 is_false : (t : Bool) → (t ≡ true → ⊥) → t ≡ false
 is_false true other = absurd (other refl)
 is_false false other = refl
 
--- a text whose first LF stands at a place
-lines_from : (text : List ℕ) (end : ℕ) → ((k : ℕ) → k < end → (get_or text k 0 == 10) ≡ true → ⊥) → end < length text
-    → (get_or text end 0 == 10) ≡ true → lines text ≡ take end text ∷ lines (drop (suc end) text)
-lines_from [] end before within found = absurd (omega arith)
-lines_from (b ∷ rest) zero before within found = rw found refl
-lines_from (b ∷ rest) (suc end) before within found =
-    let other = is_false (b == 10) (before 0 (omega arith)) in
-    let ih = lines_from rest end (λ k lt. before (suc k) (omega arith)) (omega arith) found in
-    rw (other, ih) refl
+module _ (p : ℕ → Bool) (text : List ℕ) where
+  -- the first piece ends at the first byte that passes
+  pub first_piece : (end : ℕ) → ((k : ℕ) → 0 ≤ k → k < end → p (get_or text k 0) ≡ true → ⊥) → end < length text → p (get_or text end 0) ≡ true
+      → slice_split p text ≡ take end text ∷ slice_split p (take (length text - (end + 1)) (drop (end + 1) text))
+  first_piece end before within found =
+      let at : position_or_len p text ≡ end = position_or_len_is p text end 0 (omega arith) (λ k lt. is_false _ (before k (omega arith) lt)) (λ _. found) in
+      rw (take_rest text (end + 1)) (subst (λ (n : ℕ). slice_split p text ≡ take n text ∷ slice_split p (drop (n + 1) text)) at
+      (slice_split_first p text 0 (omega arith)))
 
--- a text without LF, which has a byte
-lines_whole : (b : ℕ) (rest : List ℕ) → ((k : ℕ) → k < suc (length rest) → (get_or (b ∷ rest) k 0 == 10) ≡ true → ⊥)
-    → lines (b ∷ rest) ≡ (b ∷ rest) ∷ []
-lines_whole b [] before = let other = is_false (b == 10) (before 0 (omega arith)) in rw other refl
-lines_whole b (c ∷ rest) before =
-    let other = is_false (b == 10) (before 0 (omega arith)) in
-    let ih = lines_whole c rest (λ k lt. before (suc k) (omega arith)) in
-    rw (other, ih) refl
+  -- where no byte passes, the text is the one piece
+  pub only_piece : ((k : ℕ) → 0 ≤ k → k < length text → p (get_or text k 0) ≡ true → ⊥) → slice_split p text ≡ text ∷ []
+  only_piece before =
+      let at : position_or_len p text ≡ length text =
+      position_or_len_is p text (length text) 0 (omega arith) (λ k lt. is_false _ (before k (omega arith) lt)) (λ lt. absurd (omega arith)) in
+      slice_split_none p text (λ k d lt. fails_before_first p text k d (omega arith))
 
--- the same, as the code cuts the text
-pub first_line : (text : List ℕ) (end : ℕ) → ((k : ℕ) → 0 ≤ k → k < end → (get_or text k 0 == 10) ≡ true → ⊥) → end < length text
-    → (get_or text end 0 == 10) ≡ true
-    → lines text ≡ take end text ∷ lines (take (length text - (end + 1)) (drop (end + 1) text))
-first_line text end before within found =
-    rw (take_rest text (end + 1), add-one end) (lines_from text end (λ k lt. before k (omega arith) lt) within found)
+-- a piece before others is kept
+kept : (piece : List ℕ) (rest : List (List ℕ)) → 0 < length rest → without_empty_last (piece ∷ rest) ≡ piece ∷ without_empty_last rest
+kept piece [] some = absurd (omega arith)
+kept piece (next ∷ rest) some = refl
 
-pub last_line : (text : List ℕ) → 0 < length text → ((k : ℕ) → 0 ≤ k → k < length text → (get_or text k 0 == 10) ≡ true → ⊥)
-    → lines text ≡ text ∷ lines (take (length text - length text) (drop (length text) text))
-last_line [] some before = absurd (omega arith)
-last_line (b ∷ rest) some before =
-    let none : length (b ∷ rest) - length (b ∷ rest) ≡ 0 = omega arith in
-    rw none (lines_whole b rest (λ k lt. before k (omega arith) lt))
+-- the first piece of a text with an LF is its first line
+pub first_line : (text line rest : List ℕ) → slice_split (is_byte 10) text ≡ line ∷ slice_split (is_byte 10) rest → lines text ≡ line ∷ lines rest
+first_line text line rest split =
+    ap without_empty_last split ∙ kept line (slice_split (is_byte 10) rest) (omega (arith, length-slice_split (is_byte 10) rest))
 
--- a line whose first space stands at a place
-words_from : (text : List ℕ) (end : ℕ) → ((k : ℕ) → k < end → (get_or text k 0 == 32) ≡ true → ⊥) → end < length text
-    → (get_or text end 0 == 32) ≡ true → words text ≡ take end text ∷ words (drop (suc end) text)
-words_from [] end before within found = absurd (omega arith)
-words_from (b ∷ rest) zero before within found = rw found refl
-words_from (b ∷ rest) (suc end) before within found =
-    let other = is_false (b == 32) (before 0 (omega arith)) in
-    let ih = words_from rest end (λ k lt. before (suc k) (omega arith)) (omega arith) found in
-    rw (other, ih) refl
-
--- the same, as the code cuts the line
-pub first_word : (text : List ℕ) (end : ℕ) → ((k : ℕ) → 0 ≤ k → k < end → (get_or text k 0 == 32) ≡ true → ⊥) → end < length text
-    → (get_or text end 0 == 32) ≡ true
-    → words text ≡ take end text ∷ words (take (length text - (end + 1)) (drop (end + 1) text))
-first_word text end before within found =
-    rw (take_rest text (end + 1), add-one end) (words_from text end (λ k lt. before k (omega arith) lt) within found)
-
--- a line without a space
-words_whole : (text : List ℕ) → ((k : ℕ) → k < length text → (get_or text k 0 == 32) ≡ true → ⊥) → words text ≡ text ∷ []
-words_whole [] before = refl
-words_whole (b ∷ rest) before =
-    let other = is_false (b == 32) (before 0 (omega arith)) in
-    let ih = words_whole rest (λ k lt. before (suc k) (omega arith)) in
-    rw (other, ih) refl
-
-pub one_word : (text : List ℕ) → ((k : ℕ) → 0 ≤ k → k < length text → (get_or text k 0 == 32) ≡ true → ⊥) → words text ≡ text ∷ []
-one_word text before = words_whole text (λ k lt. before k (omega arith) lt)
+-- two words or more are not one
+pub no_one_word : (text a rest : List ℕ) → words text ≡ a ∷ words rest → one_word (words text) ≡ None
+no_one_word text a rest split = ap one_word split ∙ by (words rest) (omega (arith, length-slice_split (is_byte 32) rest))
+  where
+    by : (others : List (List ℕ)) → 0 < length others → one_word (a ∷ others) ≡ None
+    by [] some = absurd (omega arith)
+    by (b ∷ others) some = refl

@@ -4,7 +4,7 @@ use Rattle.std.proofs.lemmas.List.{append_cancel_left, append_cancel_right}
 use Rattle.hex.specs.Hex.{decode_of, encode_lower}
 use Rattle.hex.proofs.HexLemmas.{decode_of-encode_lower, decode_of-same}
 use Rattle.zv_ule.specs.Bytes.{IsBytes}
-use Rattle.zv_ule.specs.OptionSpellings.{zero_bytes}
+use Rattle.zv_ule.specs.laws.OptionSpellings.{zero_bytes}
 use Rattle.zv_map2d.specs.Image.{Stands, canon}
 use Rattle.zv_map2d.specs.Rows.{Rows}
 use Rattle.zv_map2d.proofs.Kept.{canon_again, same_canon}
@@ -33,7 +33,9 @@ same_lines a b bytes_a bytes_b e =
 pub same_edits : SameEdits
 same_edits image other m n bytes_image bytes_other short_image short_other stands_m stands_n =
     let same = same_canon image other m n short_image short_other stands_m stands_n in
-    (ap (λ x. answers x []), λ e. same.1 (same_lines (canon m) (canon n) (canon_bytes image m bytes_image stands_m) (canon_bytes other n bytes_other stands_n) e))
+    let bytes_m = canon_bytes image m bytes_image stands_m in
+    let bytes_n = canon_bytes other n bytes_other stands_n in
+    (ap (λ x. answers x []), λ e. same.1 (same_lines (canon m) (canon n) bytes_m bytes_n e))
 
 pub written_back : WrittenBack
 written_back m n texts lists short stands = ap (λ x. answers x []) ((canon_again m texts lists short).1 n stands)

@@ -7,7 +7,7 @@ use Rattle.zv_owned.specs.Size.{size, takes_insert}
 use Rattle.zv_map2d.specs.Fits.{fits, fits_texts, texts_rule}
 use Rattle.zv_map2d.specs.Image.{by_bytes}
 use Rattle.zv_map2d.specs.Keys.{Bytes}
-use Rattle.zv_map2d.specs.Pairs.{look_up}
+use Rattle.zv_map.specs.Maps.{look_up}
 use Rattle.zv_map2d.specs.Rows.{Rows, IsWell, find, firsts, seconds, values}
 use Rattle.zv_map2d.proofs.Fitting.{fits_texts_row, fits_texts_new}
 use Rattle.zv_map2d.proofs.Kept.{fits_alike}
@@ -41,7 +41,8 @@ module _ (m : Rows) (k0 k1 v : Bytes) (missing : find by_bytes by_bytes m k0 k1 
   few_where_fits : fits_texts m k0 k1 v ≡ true → length (seconds m) < 65536
   few_where_fits = few_by (look_up by_bytes m k0) refl
 
-never_many : (m : Rows) (k0 k1 v : Bytes) (o : Option Bytes) → find by_bytes by_bytes m k0 k1 ≡ o → fits_texts m k0 k1 v ≡ true → (is_none o && is_full m) ≡ true → false ≡ true
+never_many : (m : Rows) (k0 k1 v : Bytes) (o : Option Bytes) → find by_bytes by_bytes m k0 k1 ≡ o → fits_texts m k0 k1 v ≡ true
+    → (is_none o && is_full m) ≡ true → false ≡ true
 never_many m k0 k1 v (Some old) is fit full = full
 never_many m k0 k1 v None is fit full =
     let few = few_where_fits m k0 k1 v is fit in

@@ -2,16 +2,20 @@
 use Rattle.std.proofs.Common.{◌≡◌, ◌∷◌, [], ◌++◌, ℕ, List, refl, codes, Ok, Err, Some, None, true, false}
 use Rattle.std.specs.Str.{is_utf8, chars}
 use Rattle.std.specs.Fmt.{digits}
-use Rattle.std.specs.Prelude.{replicate}
+use Rattle.std.specs.Prelude.{filter, map, replicate}
 use Rattle.hex.specs.Hex.{decode_pairs, encode_with}
 use Rattle.zv_ule.specs.declared.error.TyName.TheVariants.{RawBytes4, VarZeroSlice}
 use Rattle.zv_ule.specs.declared.error.UleError.TheVariants.{InvalidLength, ParseError}
 use Rattle.zv_map2d.specs.declared.error.EditError.TheVariants.{Frame, Ule, Keys0Joiner, Keys1Values, JoinerOrder, JoinerEnd, KeyOrder}
 use Rattle.zv_tool.specs.declared.command.Command.TheVariants.{Get, Put, Del, Row}
 use Rattle.zv_tool.specs.Commands.{total_size}
-use Rattle.zv_tool.specs.Input.{lines, words, field, key, spoken}
+use Rattle.zv_tool.specs.Input.{lines, words, field, key, parse_input}
 use Rattle.zv_tool.specs.Output.{some, missing, added, old, too_large, pairs, text, image_line, bad_line, cause_line, usage_line}
-use Rattle.zv_tool.specs.Program.{is_edit}
+use Rattle.zv_tool.specs.Program.{is_edit, is_answer, is_written, is_silent, code_of}
+use Rattle.zv_tool.specs.declared.commands.TheConstants.{MAX_COMMANDS}
+use Rattle.zv_tool.specs.declared.input.TheConstants.{MAX_INPUT}
+use Rattle.zv_tool.specs.declared.status.Status.{Status}
+use Rattle.zv_tool.specs.declared.status.Status.TheVariants.{Done, Usage, ReadFault, TooLong, BadLine, BadImage, Memory, WriteFault}
 
 -- LF
 abbrev lf : List ℕ
@@ -26,143 +30,74 @@ empty_image_line = codes "x00000000000000000000000000000000000000000000000000000
 
 -- ---- lines, words, fields
 
-lines_of_three : lines (codes "a" ++ lf ++ lf ++ codes "b") ≡ codes "a" ∷ [] ∷ codes "b" ∷ []
-lines_of_three = refl
-
-lines_ended : lines (codes "a" ++ lf) ≡ codes "a" ∷ []
-lines_ended = refl
-
-lines_of_lf : lines lf ≡ [] ∷ []
-lines_of_lf = refl
-
-lines_of_none : lines [] ≡ []
-lines_of_none = refl
+lines_of_inputs : map lines ((codes "a" ++ lf ++ lf ++ codes "b") ∷ (codes "a" ++ lf) ∷ lf ∷ [] ∷ [])
+    ≡ (codes "a" ∷ [] ∷ codes "b" ∷ []) ∷ (codes "a" ∷ []) ∷ ([] ∷ []) ∷ [] ∷ []
+lines_of_inputs = refl
 
 words_of_two_spaces : words (codes "get  x") ≡ codes "get" ∷ [] ∷ codes "x" ∷ []
 words_of_two_spaces = refl
 
-field_of_either_case : field (codes "x0aFf") ≡ Some (10 ∷ 255 ∷ [])
+-- digits in either case, none, an odd number, a wrong one, and no mark
+fields : map field (codes "x0aFf" ∷ codes "x" ∷ codes "x0" ∷ codes "x0g" ∷ codes "00" ∷ [])
+    ≡ Some (10 ∷ 255 ∷ []) ∷ Some [] ∷ None ∷ None ∷ None ∷ []
 unfolding decode_pairs
-field_of_either_case = refl
+fields = refl
 
-field_of_none : field (codes "x") ≡ Some []
-unfolding decode_pairs
-field_of_none = refl
-
-field_of_odd_digits : field (codes "x0") ≡ None
-field_of_odd_digits = refl
-
-field_of_wrong_digit : field (codes "x0g") ≡ None
-unfolding decode_pairs
-field_of_wrong_digit = refl
-
-field_without_mark : field (codes "00") ≡ None
-field_without_mark = refl
-
-key_of_two_letters : key (codes "x6162") ≡ Some (codes "ab")
+-- two letters, and bytes that are no UTF-8
+keys : map key (codes "x6162" ∷ codes "xff" ∷ []) ≡ Some (codes "ab") ∷ None ∷ []
 unfolding decode_pairs is_utf8 chars lib.Utf8.encode
-key_of_two_letters = refl
-
-key_that_is_no_utf8 : key (codes "xff") ≡ None
-unfolding decode_pairs is_utf8 chars
-key_that_is_no_utf8 = refl
+keys = refl
 
 -- ---- whole inputs
 
-an_image : spoken (codes "x00ff" ++ lf) ≡ Ok (0 ∷ 255 ∷ [], [])
-unfolding spoken decode_pairs
+an_image : parse_input (codes "x00ff" ++ lf) ≡ Ok (0 ∷ 255 ∷ [], [])
+unfolding parse_input decode_pairs
 an_image = refl
 
-an_image_and_a_look_up : spoken (codes "x00" ++ lf ++ codes "get x61 x62" ++ lf) ≡ Ok (0 ∷ [], Get (codes "a") (codes "b") ∷ [])
-unfolding spoken decode_pairs is_utf8 chars lib.Utf8.encode
+an_image_and_a_look_up : parse_input (codes "x00" ++ lf ++ codes "get x61 x62" ++ lf) ≡ Ok (0 ∷ [], Get (codes "a") (codes "b") ∷ [])
+unfolding parse_input decode_pairs is_utf8 chars lib.Utf8.encode
 an_image_and_a_look_up = refl
 
 -- the last LF may be missing
-an_unfinished_last_line : spoken (codes "x00" ++ lf ++ codes "get x61 x") ≡ Ok (0 ∷ [], Get (codes "a") [] ∷ [])
-unfolding spoken decode_pairs is_utf8 chars lib.Utf8.encode
+an_unfinished_last_line : parse_input (codes "x00" ++ lf ++ codes "get x61 x") ≡ Ok (0 ∷ [], Get (codes "a") [] ∷ [])
+unfolding parse_input decode_pairs is_utf8 chars lib.Utf8.encode
 an_unfinished_last_line = refl
 
-no_input : spoken [] ≡ Err 1
-unfolding spoken
+no_input : parse_input [] ≡ Err 1
+unfolding parse_input
 no_input = refl
 
-an_empty_line : spoken (codes "x00" ++ lf ++ lf) ≡ Err 2
-unfolding spoken decode_pairs
-an_empty_line = refl
-
-one_key : spoken (codes "x00" ++ lf ++ codes "get x61" ++ lf) ≡ Err 2
-unfolding spoken decode_pairs
-one_key = refl
-
 -- the third line has two spaces
-two_spaces : spoken (codes "x00" ++ lf ++ codes "get x61 x62" ++ lf ++ codes "get  x61 x62" ++ lf) ≡ Err 3
-unfolding spoken decode_pairs is_utf8 chars lib.Utf8.encode
+two_spaces : parse_input (codes "x00" ++ lf ++ codes "get x61 x62" ++ lf ++ codes "get  x61 x62" ++ lf) ≡ Err 3
+unfolding parse_input decode_pairs is_utf8 chars lib.Utf8.encode
 two_spaces = refl
 
-cr_at_the_end : spoken (codes "x00" ++ 13 ∷ lf) ≡ Err 1
-unfolding spoken decode_pairs
+cr_at_the_end : parse_input (codes "x00" ++ 13 ∷ lf) ≡ Err 1
+unfolding parse_input decode_pairs
 cr_at_the_end = refl
 
-another_word : spoken (codes "x00" ++ lf ++ codes "set x61 x62" ++ lf) ≡ Err 2
-unfolding spoken decode_pairs
-another_word = refl
-
 -- the bytes of a value need not be UTF-8
-all_commands : spoken (codes "x00" ++ lf ++ codes "put x61 x xfF" ++ lf ++ codes "del x61 x62" ++ lf ++ codes "row x61" ++ lf)
+all_commands : parse_input (codes "x00" ++ lf ++ codes "put x61 x xfF" ++ lf ++ codes "del x61 x62" ++ lf ++ codes "row x61" ++ lf)
     ≡ Ok (0 ∷ [], Put (codes "a") [] (255 ∷ []) ∷ Del (codes "a") (codes "b") ∷ Row (codes "a") ∷ [])
-unfolding spoken decode_pairs is_utf8 chars lib.Utf8.encode
+unfolding parse_input decode_pairs is_utf8 chars lib.Utf8.encode
 all_commands = refl
 
-a_put_without_value : spoken (codes "x00" ++ lf ++ codes "put x61 x62" ++ lf) ≡ Err 2
-unfolding spoken decode_pairs
-a_put_without_value = refl
+-- lines that are no commands: an empty one, one with another word, those with a word too few or too many, and those with half a
+-- byte, or with bytes for a key that are no UTF-8
+bad_lines : List (List ℕ)
+bad_lines = [] ∷ codes "set x61 x62" ∷ codes "get x61" ∷ codes "put x61 x62" ∷ codes "put x61 x62 x01 x02" ∷ codes "del x61" ∷ codes "row x61 x62"
+    ∷ codes "put x61 x62 x0" ∷ codes "get xff x62" ∷ codes "row xff" ∷ []
 
-a_put_of_half_a_byte : spoken (codes "x00" ++ lf ++ codes "put x61 x62 x0" ++ lf) ≡ Err 2
-unfolding spoken decode_pairs is_utf8 chars lib.Utf8.encode
-a_put_of_half_a_byte = refl
-
-a_put_of_two_values : spoken (codes "x00" ++ lf ++ codes "put x61 x62 x01 x02" ++ lf) ≡ Err 2
-unfolding spoken decode_pairs
-a_put_of_two_values = refl
-
-a_del_of_one_key : spoken (codes "x00" ++ lf ++ codes "del x61" ++ lf) ≡ Err 2
-unfolding spoken decode_pairs
-a_del_of_one_key = refl
-
-a_row_of_two_keys : spoken (codes "x00" ++ lf ++ codes "row x61 x62" ++ lf) ≡ Err 2
-unfolding spoken decode_pairs
-a_row_of_two_keys = refl
-
-a_row_of_no_text : spoken (codes "x00" ++ lf ++ codes "row xff" ++ lf) ≡ Err 2
-unfolding spoken decode_pairs is_utf8 chars lib.Utf8.encode
-a_row_of_no_text = refl
-
-a_key_that_is_no_utf8 : spoken (codes "x00" ++ lf ++ codes "get xff x62" ++ lf) ≡ Err 2
-unfolding spoken decode_pairs is_utf8 chars lib.Utf8.encode
-a_key_that_is_no_utf8 = refl
+bad_second_lines : map (λ line. parse_input (codes "x00" ++ lf ++ line ++ lf)) bad_lines ≡ replicate 10 (Err 2)
+unfolding bad_lines parse_input decode_pairs is_utf8 chars lib.Utf8.encode
+bad_second_lines = refl
 
 -- ---- output
 
-some_text : text (some (1 ∷ 171 ∷ [])) ≡ codes "some x01ab" ++ lf
+reply_texts : map text (some (1 ∷ 171 ∷ []) ∷ missing ∷ added ∷ old [] ∷ too_large ∷ pairs ((codes "b", 2 ∷ []) ∷ ([], []) ∷ []) ∷ [])
+    ≡ map (λ t. t ++ lf) (codes "some x01ab" ∷ codes "none" ∷ codes "new" ∷ codes "old x" ∷ codes "toolarge" ∷ codes "row x62 x02 x x" ∷ [])
 unfolding encode_with
-some_text = refl
-
-none_text : text missing ≡ codes "none" ++ lf
-none_text = refl
-
-new_text : text added ≡ codes "new" ++ lf
-new_text = refl
-
-old_text : text (old []) ≡ codes "old x" ++ lf
-unfolding encode_with
-old_text = refl
-
-too_large_text : text too_large ≡ codes "toolarge" ++ lf
-too_large_text = refl
-
-row_text : text (pairs ((codes "b", 2 ∷ []) ∷ ([], []) ∷ [])) ≡ codes "row x62 x02 x x" ++ lf
-unfolding encode_with
-row_text = refl
+reply_texts = refl
 
 empty_image_text : image_line empty_image ≡ codes "image " ++ empty_image_line ++ lf
 unfolding empty_image_line encode_with
@@ -172,43 +107,43 @@ bad_line_text : bad_line 12 ≡ codes "error line 12" ++ lf
 unfolding digits
 bad_line_text = refl
 
-frame_text : cause_line Frame ≡ codes "error frame" ++ lf
-frame_text = refl
-
-length_text : cause_line (Ule (InvalidLength RawBytes4 3)) ≡ codes "error length" ++ lf
-length_text = refl
-
-parse_text : cause_line (Ule (ParseError VarZeroSlice)) ≡ codes "error parse" ++ lf
-parse_text = refl
-
-keys0joiner_text : cause_line Keys0Joiner ≡ codes "error keys0joiner" ++ lf
-keys0joiner_text = refl
-
-keys1values_text : cause_line Keys1Values ≡ codes "error keys1values" ++ lf
-keys1values_text = refl
-
-joinerorder_text : cause_line JoinerOrder ≡ codes "error joinerorder" ++ lf
-joinerorder_text = refl
-
-joinerend_text : cause_line JoinerEnd ≡ codes "error joinerend" ++ lf
-joinerend_text = refl
-
-keyorder_text : cause_line KeyOrder ≡ codes "error keyorder" ++ lf
-keyorder_text = refl
+cause_texts : map cause_line (Frame ∷ Ule (InvalidLength RawBytes4 3) ∷ Ule (ParseError VarZeroSlice) ∷ Keys0Joiner ∷ Keys1Values ∷ JoinerOrder
+    ∷ JoinerEnd ∷ KeyOrder ∷ [])
+    ≡ map (λ word. codes "error " ++ word ++ lf) (codes "frame" ∷ codes "length" ∷ codes "parse" ∷ codes "keys0joiner" ∷ codes "keys1values"
+    ∷ codes "joinerorder" ∷ codes "joinerend" ∷ codes "keyorder" ∷ [])
+cause_texts = refl
 
 usage_text : usage_line ≡ codes "usage: zv COMMAND" ++ lf
 usage_text = refl
 
 -- ---- words and sizes
 
-edit_alone : is_edit (codes "edit" ∷ []) ≡ true
-edit_alone = refl
-
-edit_and_more : is_edit (codes "edit" ∷ codes "more" ∷ []) ≡ false
-edit_and_more = refl
-
-no_words : is_edit [] ≡ false
-no_words = refl
+edits : map is_edit ((codes "edit" ∷ []) ∷ (codes "edit" ∷ codes "more" ∷ []) ∷ [] ∷ []) ≡ true ∷ false ∷ false ∷ []
+edits = refl
 
 sizes : total_size (Get (codes "a") (codes "bc") ∷ Get [] [] ∷ Put (codes "a") [] (1 ∷ 2 ∷ []) ∷ Del [] (codes "b") ∷ Row (codes "ab") ∷ []) ≡ 14
 sizes = refl
+
+-- ---- limits and statuses
+
+most_input : MAX_INPUT ≡ 16777216
+most_input = refl
+
+most_commands : MAX_COMMANDS ≡ 16777216
+most_commands = refl
+
+-- every status, in the order of the program's checks
+abbrev statuses : List Status
+statuses = Done ∷ Usage ∷ ReadFault ∷ TooLong ∷ BadLine ∷ BadImage ∷ Memory ∷ WriteFault ∷ []
+
+codes_of_statuses : map code_of statuses ≡ 0 ∷ 1 ∷ 2 ∷ 3 ∷ 4 ∷ 5 ∷ 6 ∷ 7 ∷ []
+codes_of_statuses = refl
+
+statuses_of_answers : filter is_answer statuses ≡ Done ∷ BadLine ∷ BadImage ∷ []
+statuses_of_answers = refl
+
+statuses_of_texts : filter is_written statuses ≡ Done ∷ Usage ∷ BadLine ∷ BadImage ∷ []
+statuses_of_texts = refl
+
+statuses_of_silence : filter is_silent statuses ≡ ReadFault ∷ TooLong ∷ Memory ∷ []
+statuses_of_silence = refl

@@ -1,40 +1,24 @@
 -- A command is no larger than its line.
-use Rattle.std.proofs.Common.{◌≡◌, ◌⊎◌, ℕ, ◌+◌, ◌*◌, ◌≤◌, ◌==◌, List, [], ◌∷◌, length, Bool, true, false, inl, inr, refl, ◌∙◌, ap, arith, Some, None, Ok, Err, codes}
-use Rattle.std.specs.Prelude.{if◌then◌else◌, sum_by, Result, bytes_eq}
-use Rattle.std.specs.Str.{is_utf8}
+use Rattle.std.proofs.Common.{◌≡◌, ℕ, suc, ◌+◌, ◌*◌, ◌≤◌, ◌==◌, List, [], ◌∷◌, length, true, false, inl, inr, refl, ◌∙◌, ap, arith, Some, None, Ok, Err}
+use Rattle.std.specs.Prelude.{if◌then◌else◌, sum_by, Result}
+use Rattle.std.specs.List.{onto_first}
 use Rattle.std.specs.Result.{result_ok}
-use Rattle.std.specs.declared.option.Option.{Option}
+use Rattle.std.proofs.lemmas.List.Sums.{sum_by-cons}
 use Rattle.hex.specs.Hex.{decode_of}
 use Rattle.hex.specs.declared.error.FromHexError.{FromHexError}
-use Rattle.std.proofs.Common.{suc}
-use Rattle.std.proofs.lemmas.List.Sums.{sum_by-cons}
 use Rattle.hex.proofs.HexLemmas.{decode_of-ok}
-use Rattle.zv_tool.specs.Input.{words, onto_first, field, key, text_of, get, put, del, row, command_of, ◌>>=◌}
+use Rattle.zv_tool.specs.Input.{words, one_word, two_words, three_words, field, key, text_of, command_of_words}
 use Rattle.zv_tool.specs.Commands.{command_size}
 use Rattle.zv_tool.specs.declared.command.Command.{Command}
 use Rattle.zv_tool.specs.declared.command.Command.TheVariants.{Get, Put, Del, Row}
-
--- what a value after two steps shows
-pub bind_some : {A B : Type 0} (o : Option A) (f : A → Option B) (y : B) → (o >>= f) ≡ Some y
-    → (x : A) × ((o ≡ Some x) × (f x ≡ Some y))
-bind_some (Some x) f y h = (x, (refl, h))
-bind_some None f y h = cc h
-
--- a value of a choice is one of the two
-pub if_some : {A : Type 0} (t : Bool) (x y : Option A) (c : A) → (if t then x else y) ≡ Some c → (x ≡ Some c) ⊎ (y ≡ Some c)
-if_some true x y c h = inl h
-if_some false x y c h = inr h
-
--- a value of `Some`
-pub some_is : {A : Type 0} (x y : A) → Some x ≡ Some y → x ≡ y
-some_is x y h = cc h
+use Rattle.zv_tool.proofs.Fields.{bind_some, if_some, some_is, text_is, AreFields, command_fields}
 
 result_ok_some : (r : Result (List ℕ) FromHexError) (bytes : List ℕ) → result_ok r ≡ Some bytes → r ≡ Ok bytes
 result_ok_some (Ok x) bytes h = ap Ok (some_is x bytes h)
 result_ok_some (Err e) bytes h = cc h
 
 -- a field has two digits for each byte, and its mark
-pub field_long : (word bytes : List ℕ) → field word ≡ Some bytes → length word ≡ 1 + 2 * length bytes
+field_long : (word bytes : List ℕ) → field word ≡ Some bytes → length word ≡ 1 + 2 * length bytes
 field_long [] bytes h = cc h
 field_long (mark ∷ digits) bytes h =
     elim (if_some (mark == 120) (result_ok (decode_of digits)) None bytes h) [
@@ -45,66 +29,47 @@ field_long (mark ∷ digits) bytes h =
 key_long : (word bytes : List ℕ) → key word ≡ Some bytes → length word ≡ 1 + 2 * length bytes
 key_long word bytes h =
     let parts = bind_some (field word) text_of bytes h in
-    elim (if_some (is_utf8 parts.0) (Some parts.0) None bytes parts.1.1) [
-      | inl said ↦ field_long word bytes (parts.1.0 ∙ said)
-      | inr none ↦ cc none
-    ]
+    field_long word bytes (parts.1.0 ∙ ap Some (text_is parts.0 bytes parts.1.1).0)
 
--- commands are no larger than their words
-get_size : (a b : List ℕ) (c : Command) → get a b ≡ Some c → command_size c ≤ length a + length b
-get_size a b c h =
-    let p0 = bind_some (key a) _ c h in
-    let p1 = bind_some (key b) _ c p0.1.1 in
-    let la = key_long a p0.0 p0.1.0 in
-    let lb = key_long b p1.0 p1.1.0 in
-    rw (← some_is (Get p0.0 p1.0) c p1.1.1) (omega arith)
+-- one word, two, three are as long as all
+one_long : (ws : List (List ℕ)) (a : List ℕ) → one_word ws ≡ Some a → sum_by length ws ≡ length a
+one_long [] a h = cc h
+one_long (b ∷ []) a h = omega (arith, ap length (some_is b a h))
+one_long (b ∷ c ∷ ws) a h = cc h
 
-put_size : (a b f : List ℕ) (c : Command) → put a b f ≡ Some c → command_size c ≤ length a + length b + length f
-put_size a b f c h =
-    let p0 = bind_some (key a) _ c h in
-    let p1 = bind_some (key b) _ c p0.1.1 in
-    let p2 = bind_some (field f) _ c p1.1.1 in
-    let la = key_long a p0.0 p0.1.0 in
-    let lb = key_long b p1.0 p1.1.0 in
-    let lf = field_long f p2.0 p2.1.0 in
-    rw (← some_is (Put p0.0 p1.0 p2.0) c p2.1.1) (omega arith)
+two_long : (ws : List (List ℕ)) (p : List ℕ × List ℕ) → two_words ws ≡ Some p → sum_by length ws ≡ length p.0 + length p.1
+two_long [] p h = cc h
+two_long (a ∷ ws) p h =
+    let b = bind_some (one_word ws) _ p h in
+    rw (← some_is (a, b.0) p b.1.1) (omega (arith, sum_by-cons length a ws, one_long ws b.0 b.1.0))
 
-del_size : (a b : List ℕ) (c : Command) → del a b ≡ Some c → command_size c ≤ length a + length b
-del_size a b c h =
-    let p0 = bind_some (key a) _ c h in
-    let p1 = bind_some (key b) _ c p0.1.1 in
-    let la = key_long a p0.0 p0.1.0 in
-    let lb = key_long b p1.0 p1.1.0 in
-    rw (← some_is (Del p0.0 p1.0) c p1.1.1) (omega arith)
+three_long : (ws : List (List ℕ)) (p : List ℕ × List ℕ × List ℕ) → three_words ws ≡ Some p
+    → sum_by length ws ≡ length p.0 + length p.1 + length p.2
+three_long [] p h = cc h
+three_long (a ∷ ws) p h =
+    let q = bind_some (two_words ws) _ p h in
+    rw (← some_is (a, q.0.0, q.0.1) p q.1.1) (omega (arith, sum_by-cons length a ws, two_long ws q.0 q.1.0))
 
-row_size : (a : List ℕ) (c : Command) → row a ≡ Some c → command_size c ≤ length a
-row_size a c h =
-    let p = bind_some (key a) _ c h in
-    let long = key_long a p.0 p.1.0 in
-    rw (← some_is (Row p.0) c p.1.1) (omega arith)
+-- a command is no larger than its fields
+fields_size : (fields : List (List ℕ)) (c : Command) → AreFields fields c → command_size c ≤ sum_by length fields
+fields_size fields (Get key0 key1) h =
+    omega (arith, two_long fields h.words h.two, key_long h.words.0 key0 h.first, key_long h.words.1 key1 h.second)
+fields_size fields (Put key0 key1 value) h =
+    omega (
+      arith,
+      three_long fields h.words h.three,
+      key_long h.words.0 key0 h.first,
+      key_long h.words.1 key1 h.second,
+      field_long h.words.2 value h.third,
+    )
+fields_size fields (Del key0 key1) h =
+    omega (arith, two_long fields h.words h.two, key_long h.words.0 key0 h.first, key_long h.words.1 key1 h.second)
+fields_size fields (Row key0) h = omega (arith, one_long fields h.word h.one, key_long h.word key0 h.first)
 
-command_of_size : (ws : List (List ℕ)) (c : Command) → command_of ws ≡ Some c → command_size c ≤ sum_by length ws
-command_of_size [] c h = cc h
-command_of_size (name ∷ []) c h = cc h
-command_of_size (name ∷ a ∷ []) c h =
-    elim (if_some (bytes_eq name (codes "row")) (row a) None c h) [
-      | inl said ↦ let size = row_size a c said in omega arith
-      | inr none ↦ cc none
-    ]
-command_of_size (name ∷ a ∷ b ∷ []) c h =
-    elim (if_some (bytes_eq name (codes "get")) (get a b) (if bytes_eq name (codes "del") then del a b else None) c h) [
-      | inl said ↦ let size = get_size a b c said in omega arith
-      | inr other ↦ elim (if_some (bytes_eq name (codes "del")) (del a b) None c other) [
-        | inl said ↦ let size = del_size a b c said in omega arith
-        | inr none ↦ cc none
-      ]
-    ]
-command_of_size (name ∷ a ∷ b ∷ f ∷ []) c h =
-    elim (if_some (bytes_eq name (codes "put")) (put a b f) None c h) [
-      | inl said ↦ let size = put_size a b f c said in omega arith
-      | inr none ↦ cc none
-    ]
-command_of_size (name ∷ a ∷ b ∷ f ∷ more ∷ ws) c h = cc h
+-- and no larger than its words
+words_fit : (ws : List (List ℕ)) (c : Command) → command_of_words ws ≡ Some c → command_size c ≤ sum_by length ws
+words_fit [] c h = cc h
+words_fit (name ∷ fields) c h = omega (arith, sum_by-cons length name fields, fields_size fields c (command_fields name fields c h))
 
 -- the words of a line are no longer than it
 onto_first_size : (b : ℕ) (ws : List (List ℕ)) → sum_by length (onto_first b ws) ≡ 1 + sum_by length ws
@@ -121,8 +86,5 @@ words_size (b ∷ rest) =
       | false ↦ omega arith
     ]
 
-pub command_fits : (line : List ℕ) (c : Command) → command_of (words line) ≡ Some c → command_size c ≤ length line
-command_fits line c h =
-    let small = command_of_size (words line) c h in
-    let within = words_size line in
-    omega arith
+pub command_fits : (line : List ℕ) (c : Command) → command_of_words (words line) ≡ Some c → command_size c ≤ length line
+command_fits line c h = omega (arith, words_fit (words line) c h, words_size line)

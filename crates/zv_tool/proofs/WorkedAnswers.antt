@@ -42,30 +42,37 @@ no_commands : answers [] [] ≡ codes "image x0000000000000000000000000000000000
 unfolding encode_with
 no_commands = refl
 
-a_first_pair : answers [] (Put a b (1 ∷ []) ∷ []) ≡ codes "new" ++ lf ++ codes "image x030000000000000001006104000000000000000100000003000000000000000100620300000000000000010001" ++ lf
+a_first_pair : answers [] (Put a b (1 ∷ []) ∷ [])
+    ≡ codes "new" ++ lf ++ codes "image x030000000000000001006104000000000000000100000003000000000000000100620300000000000000010001" ++ lf
 unfolding encode_with
 a_first_pair = refl
 
-another_value : answers ab (Put a b (2 ∷ 2 ∷ []) ∷ []) ≡ codes "old x01" ++ lf ++ codes "image x03000000000000000100610400000000000000010000000300000000000000010062040000000000000001000202" ++ lf
+another_value : answers ab (Put a b (2 ∷ 2 ∷ []) ∷ [])
+    ≡ codes "old x01" ++ lf ++ codes "image x03000000000000000100610400000000000000010000000300000000000000010062040000000000000001000202" ++ lf
 unfolding encode_with
 another_value = refl
 
-removed_twice : answers ab (Del a b ∷ Del a b ∷ []) ≡ codes "old x01" ++ lf ++ codes "none" ++ lf ++ codes "image x0000000000000000000000000000000000000000000000000000000000000000" ++ lf
+removed_twice : answers ab (Del a b ∷ Del a b ∷ [])
+    ≡ codes "old x01" ++ lf ++ codes "none" ++ lf ++ codes "image x0000000000000000000000000000000000000000000000000000000000000000" ++ lf
 unfolding encode_with
 removed_twice = refl
 
-a_row : answers two_rows (Row b ∷ []) ≡ codes "row x61 x02" ++ lf ++ codes "image x0600000000000000020001006162080000000000000001000000020000000600000000000000020001007a610600000000000000020001000102" ++ lf
+a_row : answers two_rows (Row b ∷ [])
+    ≡ codes "row x61 x02" ++ lf
+    ++ codes "image x0600000000000000020001006162080000000000000001000000020000000600000000000000020001007a610600000000000000020001000102" ++ lf
 unfolding encode_with
 a_row = refl
 
-empty_fields : answers [] (Put [] [] [] ∷ []) ≡ codes "new" ++ lf ++ codes "image x02000000000000000100040000000000000001000000020000000000000001000200000000000000" ++ codes "0100" ++ lf
+empty_fields : answers [] (Put [] [] [] ∷ [])
+    ≡ codes "new" ++ lf ++ codes "image x02000000000000000100040000000000000001000000020000000000000001000200000000000000" ++ codes "0100" ++ lf
 unfolding encode_with
 empty_fields = refl
 
 -- ---- replies, each on the map that the earlier commands leave
 
 in_turn : reply_lines [] (Put a c (1 ∷ 2 ∷ []) ∷ Put a b [] ∷ Row a ∷ Get a b ∷ Del a c ∷ Row a ∷ Row b ∷ [])
-    ≡ codes "new" ++ lf ++ codes "new" ++ lf ++ codes "row x62 x x63 x0102" ++ lf ++ codes "some x" ++ lf ++ codes "old x0102" ++ lf ++ codes "row x62 x" ++ lf ++ codes "none" ++ lf
+    ≡ codes "new" ++ lf ++ codes "new" ++ lf ++ codes "row x62 x x63 x0102" ++ lf ++ codes "some x" ++ lf
+    ++ codes "old x0102" ++ lf ++ codes "row x62 x" ++ lf ++ codes "none" ++ lf
 unfolding encode_with
 in_turn = refl
 
@@ -93,7 +100,8 @@ locale_image = refl
 -- ---- values that do not fit
 
 -- a full list of values takes no other, and a value gives way to one of its length
-full_values : replies [] (Put a b (longest 0) ∷ Put a c (1 ∷ []) ∷ Put a b (longest 1) ∷ Put a b (2 ∷ []) ∷ []) ≡ added ∷ too_large ∷ old (longest 0) ∷ old (longest 1) ∷ []
+full_values : replies [] (Put a b (longest 0) ∷ Put a c (1 ∷ []) ∷ Put a b (longest 1) ∷ Put a b (2 ∷ []) ∷ [])
+    ≡ added ∷ too_large ∷ old (longest 0) ∷ old (longest 1) ∷ []
 full_values = refl
 
 full_values_left : last [] (Put a b (longest 0) ∷ Put a c (1 ∷ []) ∷ Put a b (longest 1) ∷ Put a b (2 ∷ []) ∷ []) ≡ (a, (b, 2 ∷ []) ∷ []) ∷ []
@@ -114,7 +122,8 @@ no_empty_row_image = refl
 oversized : List ℕ
 oversized = replicate 70000 7
 
-oversized_replies : replies ((a, (b, oversized) ∷ []) ∷ []) (Get a b ∷ Put a b oversized ∷ Put a b (1 ∷ 2 ∷ 3 ∷ []) ∷ []) ≡ some oversized ∷ too_large ∷ old oversized ∷ []
+oversized_replies : replies ((a, (b, oversized) ∷ []) ∷ []) (Get a b ∷ Put a b oversized ∷ Put a b (1 ∷ 2 ∷ 3 ∷ []) ∷ [])
+    ≡ some oversized ∷ too_large ∷ old oversized ∷ []
 unfolding oversized
 oversized_replies = refl
 

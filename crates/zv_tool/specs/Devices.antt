@@ -18,4 +18,5 @@ AppendsPrefix old new bytes = (n : ℕ) × Appends old new (take n bytes)
 
 -- Ok: all of the piece was taken. Err: a prefix of it.
 abbrev pub Takes : {T E : Type 0} → Option (List ℕ) → Option (List ℕ) → Result T E → List ℕ → Type 0
-Takes old new result piece = MatchResult result (λ _. Appends old new piece) (λ _. AppendsPrefix old new piece)
+Takes old new result piece =
+    MatchResult result (λ _. Appends old new piece) (λ _. AppendsPrefix old new piece)

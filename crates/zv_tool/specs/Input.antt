@@ -1,30 +1,66 @@
 -- What an input says: its lines, fields and commands.
-use Rattle.std.specs.Prelude.{◌≡◌, ℕ, ◌+◌, ◌==◌, if◌then◌else◌, List, [], ◌∷◌, codes, bytes_eq, Result}
+use Rattle.std.specs.Prelude.{◌≡◌, ℕ, ◌+◌, ◌==◌, if◌then◌else◌, List, [], ◌∷◌, codes}
+use Rattle.std.specs.Prelude.{Bool, true, bytes_eq, Result}
+use Rattle.std.specs.List.{slice_split}
 use Rattle.std.specs.Result.{result_ok}
 use Rattle.std.specs.Str.{is_utf8}
 use Rattle.std.specs.declared.option.Option.{Option}
 use Rattle.std.specs.declared.option.Option.TheVariants.{Some, None}
 use Rattle.std.specs.declared.result.Result.TheVariants.{Ok, Err}
 use Rattle.hex.specs.Hex.{decode_of}
+use Rattle.memchr.specs.Find.{is_byte}
 use Rattle.zv_tool.specs.declared.command.Command.{Command}
 use Rattle.zv_tool.specs.declared.command.Command.TheVariants.{Get, Put, Del, Row}
 use Rattle.zv_tool.specs.declared.parse.InputError.{InputError}
 use Rattle.zv_tool.specs.declared.parse.InputError.TheVariants.{BadLine, Memory}
 
--- a byte in front of the first piece
-abbrev pub onto_first : ℕ → List (List ℕ) → List (List ℕ)
-onto_first b [] = (b ∷ []) ∷ []
-onto_first b (piece ∷ rest) = (b ∷ piece) ∷ rest
+-- ---- lines and words
+
+-- a piece, unless it is empty
+abbrev pub unless_empty : List ℕ → List (List ℕ)
+unless_empty [] = []
+unless_empty piece = piece ∷ []
+
+-- pieces without the last, where that is empty
+abbrev pub without_empty_last : List (List ℕ) → List (List ℕ)
+without_empty_last [] = []
+without_empty_last (last ∷ []) = unless_empty last
+without_empty_last (piece ∷ next ∷ rest) = piece ∷ without_empty_last (next ∷ rest)
 
 -- the lines of an input: each ends in LF (10), which may be missing after the last
 abbrev pub lines : List ℕ → List (List ℕ)
-lines [] = []
-lines (b ∷ rest) = if b == 10 then [] ∷ lines rest else onto_first b (lines rest)
+lines input = without_empty_last (slice_split (is_byte 10) input)
 
 -- the words of a line, which single spaces (32) part
 abbrev pub words : List ℕ → List (List ℕ)
-words [] = [] ∷ []
-words (b ∷ rest) = if b == 32 then [] ∷ words rest else onto_first b (words rest)
+words line = slice_split (is_byte 32) line
+
+-- the second step, if the first gave a value
+infixl 10 ◌>>=◌
+abbrev pub ◌>>=◌ : {A B : Type 0} → Option A → (A → Option B) → Option B
+None >>= f = None
+Some x >>= f = f x
+
+-- the word, where there is one and no other
+abbrev pub one_word : List (List ℕ) → Option (List ℕ)
+one_word (a ∷ []) = Some a
+one_word others = None
+
+-- the words, where there are two
+abbrev pub two_words : List (List ℕ) → Option (List ℕ × List ℕ)
+two_words [] = None
+two_words (a ∷ rest) = do
+  b ← one_word rest
+  Some (a, b)
+
+-- the words, where there are three
+abbrev pub three_words : List (List ℕ) → Option (List ℕ × List ℕ × List ℕ)
+three_words [] = None
+three_words (a ∷ rest) = do
+  pair ← two_words rest
+  Some (a, pair.0, pair.1)
+
+-- ---- fields
 
 -- the bytes that hex digits stand for: an even number of them, in either case
 abbrev pub bytes_of_digits : List ℕ → Option (List ℕ)
@@ -34,12 +70,6 @@ bytes_of_digits digits = result_ok (decode_of digits)
 abbrev pub field : List ℕ → Option (List ℕ)
 field [] = None
 field (mark ∷ digits) = if mark == 120 then bytes_of_digits digits else None
-
--- the second step, if the first gave a value
-infixl 10 ◌>>=◌
-abbrev pub ◌>>=◌ : {A B : Type 0} → Option A → (A → Option B) → Option B
-None >>= f = None
-Some x >>= f = f x
 
 -- bytes, if they are UTF-8
 abbrev pub text_of : List ℕ → Option (List ℕ)
@@ -51,49 +81,70 @@ text_of_digits digits = do
   bytes ← bytes_of_digits digits
   text_of bytes
 
+-- whether bytes can be what is wanted: a text is UTF-8, and else any will do
+abbrev pub is_content : Bool → List ℕ → Bool
+is_content is_text bytes = if is_text then is_utf8 bytes else true
+
+-- the bytes that hex digits stand for, if they can be what is wanted
+abbrev pub content_of : Bool → List ℕ → Option (List ℕ)
+content_of is_text digits = do
+  bytes ← bytes_of_digits digits
+  if is_content is_text bytes then Some bytes else None
+
 -- the text that a key stands for: a field whose bytes are UTF-8
 abbrev pub key : List ℕ → Option (List ℕ)
 key word = do
   bytes ← field word
   text_of bytes
 
+-- ---- commands
+
 -- the look-up of a pair of keys: what stands after `get`
-abbrev pub get : List ℕ → List ℕ → Option Command
-get a b = do
-  key0 ← key a
-  key1 ← key b
+abbrev pub get : List (List ℕ) → Option Command
+get fields = do
+  pair ← two_words fields
+  key0 ← key pair.0
+  key1 ← key pair.1
   Some (Get key0 key1)
 
 -- a value, which is a field, for a pair of keys: what stands after `put`
-abbrev pub put : List ℕ → List ℕ → List ℕ → Option Command
-put a b c = do
-  key0 ← key a
-  key1 ← key b
-  value ← field c
+abbrev pub put : List (List ℕ) → Option Command
+put fields = do
+  triple ← three_words fields
+  key0 ← key triple.0
+  key1 ← key triple.1
+  value ← field triple.2
   Some (Put key0 key1 value)
 
 -- the removal of a pair of keys: what stands after `del`
-abbrev pub del : List ℕ → List ℕ → Option Command
-del a b = do
-  key0 ← key a
-  key1 ← key b
+abbrev pub del : List (List ℕ) → Option Command
+del fields = do
+  pair ← two_words fields
+  key0 ← key pair.0
+  key1 ← key pair.1
   Some (Del key0 key1)
 
 -- all pairs of a first key: what stands after `row`
-abbrev pub row : List ℕ → Option Command
-row a = do
+abbrev pub row : List (List ℕ) → Option Command
+row fields = do
+  a ← one_word fields
   key0 ← key a
   Some (Row key0)
 
--- the command that some words are: `get K K`, `put K K F`, `del K K` or `row K`, with keys K and a field F
-abbrev pub command_of : List (List ℕ) → Option Command
-command_of (name ∷ a ∷ []) = if bytes_eq name (codes "row") then row a else None
-command_of (name ∷ a ∷ b ∷ []) =
-    if bytes_eq name (codes "get") then get a b
-    else if bytes_eq name (codes "del") then del a b
+-- the command of a name and the fields after it: `get K K`, `put K K F`, `del K K` or `row K`,
+-- with keys K and a field F
+abbrev pub command_of : List ℕ → List (List ℕ) → Option Command
+command_of name fields =
+    if bytes_eq name (codes "get") then get fields
+    else if bytes_eq name (codes "put") then put fields
+    else if bytes_eq name (codes "del") then del fields
+    else if bytes_eq name (codes "row") then row fields
     else None
-command_of (name ∷ a ∷ b ∷ c ∷ []) = if bytes_eq name (codes "put") then put a b c else None
-command_of others = None
+
+-- the command that the words of a line are
+abbrev pub command_of_words : List (List ℕ) → Option Command
+command_of_words [] = None
+command_of_words (name ∷ fields) = command_of name fields
 
 -- a command and those that follow it, or the number of the first bad line
 abbrev pub command_and : ℕ → Option Command → Result (List Command) ℕ → Result (List Command) ℕ
@@ -104,24 +155,27 @@ command_and n (Some c) (Err m) = Err m
 -- the commands that lines are, the first of them line n, or the number of the first bad line
 abbrev pub commands : ℕ → List (List ℕ) → Result (List Command) ℕ
 commands n [] = Ok []
-commands n (line ∷ rest) = command_and n (command_of (words line)) (commands (n + 1) rest)
+commands n (line ∷ rest) = command_and n (command_of_words (words line)) (commands (n + 1) rest)
+
+-- ---- inputs
 
 -- an image and the commands that follow it, or the number of the first bad line
-abbrev pub image_and : Option (List ℕ) → Result (List Command) ℕ → Result (List ℕ × List Command) ℕ
+abbrev pub image_and : Option (List ℕ) → Result (List Command) ℕ
+    → Result (List ℕ × List Command) ℕ
 image_and None rest = Err 1
 image_and (Some image) (Ok cs) = Ok (image, cs)
 image_and (Some image) (Err n) = Err n
 
 -- the same, of an input's lines: no line is a bad line 1
-abbrev pub spoken_by : List (List ℕ) → Result (List ℕ × List Command) ℕ
-spoken_by [] = Err 1
-spoken_by (first ∷ rest) = image_and (field first) (commands 2 rest)
+abbrev pub parse_lines : List (List ℕ) → Result (List ℕ × List Command) ℕ
+parse_lines [] = Err 1
+parse_lines (first ∷ rest) = image_and (field first) (commands 2 rest)
 
 -- the image and the commands of an input, or the number of its first bad line, from 1
-unfoldable pub spoken : List ℕ → Result (List ℕ × List Command) ℕ
-spoken input = spoken_by (lines input)
+unfoldable pub parse_input : List ℕ → Result (List ℕ × List Command) ℕ
+parse_input input = parse_lines (lines input)
 
--- The error names the bad line that reading gives; want of memory says nothing.
-abbrev pub Tells : {A : Type 0} → Result A ℕ → InputError → Type 0
-Tells read (BadLine number) = read ≡ Err number
-Tells read Memory = Unit {0}
+-- The error names the bad line that parsing gives; want of memory says nothing.
+abbrev pub ReportsLine : {A : Type 0} → Result A ℕ → InputError → Type 0
+ReportsLine parsed (BadLine number) = parsed ≡ Err number
+ReportsLine parsed Memory = Unit {0}

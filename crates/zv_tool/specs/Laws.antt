@@ -9,7 +9,7 @@ use Rattle.zv_map2d.specs.Rows.{Rows}
 use Rattle.zv_tool.specs.declared.command.Command.{Command}
 use Rattle.zv_tool.specs.declared.command.Command.TheVariants.{Get, Put, Del, Row}
 use Rattle.zv_tool.specs.Answers.{answers, last}
-use Rattle.zv_tool.specs.Input.{spoken}
+use Rattle.zv_tool.specs.Input.{parse_input}
 use Rattle.zv_tool.specs.Output.{image_line}
 
 -- the keys of a command are texts
@@ -20,17 +20,23 @@ OfTexts (Del key0 key1) = (text_fault key0 ≡ None) × (text_fault key1 ≡ Non
 OfTexts (Row key0) = text_fault key0 ≡ None
 
 -- an input's commands have texts for keys
-abbrev pub SpokenTexts : Type 0
-SpokenTexts = (input : List ℕ) → IfOk (spoken input) (λ said. AllByRecursion OfTexts said.1)
+abbrev pub KeysAreTexts : Type 0
+KeysAreTexts =
+    (input : List ℕ) → IfOk (parse_input input) (λ parsed. AllByRecursion OfTexts parsed.1)
 
--- where an image stands for a map, the canonical image of what commands leave of that map stands for what they leave
+-- where an image stands for a map, the canonical image of what commands leave of that map stands
+-- for what they leave
 abbrev pub LeftStands : Type 0
-LeftStands = (image : List ℕ) (m : Rows) (cs : List Command) → Stands image m → AllByRecursion OfTexts cs → Stands (canon (last m cs)) (last m cs)
+LeftStands = (image : List ℕ) (m : Rows) (cs : List Command) →
+    Stands image m → AllByRecursion OfTexts cs → Stands (canon (last m cs)) (last m cs)
 
 -- two images stand for one map exactly where an edit with no commands writes the same for both
 abbrev pub SameEdits : Type 0
-SameEdits = (image other : List ℕ) (m n : Rows) → IsBytes image → IsBytes other → length image < 2 ^ 64 → length other < 2 ^ 64 → Stands image m → Stands other n → (m ≡ n) ↔ (answers m [] ≡ answers n [])
+SameEdits = (image other : List ℕ) (m n : Rows) → IsBytes image → IsBytes other →
+    length image < 2 ^ 64 → length other < 2 ^ 64 → Stands image m → Stands other n →
+    (m ≡ n) ↔ (answers m [] ≡ answers n [])
 
 -- a canonical image is written back as it is by an edit with no commands
 abbrev pub WrittenBack : Type 0
-WrittenBack = (m n : Rows) → IsTextMap m → IsCodable m → length (canon m) < 2 ^ 64 → Stands (canon m) n → answers n [] ≡ image_line (canon m)
+WrittenBack = (m n : Rows) → IsTextMap m → IsCodable m → length (canon m) < 2 ^ 64 →
+    Stands (canon m) n → answers n [] ≡ image_line (canon m)

@@ -5,10 +5,12 @@ use Rattle.std.specs.List.{flat_map}
 use Rattle.hex.specs.Hex.{encode_lower}
 use Rattle.zv_ule.specs.declared.error.UleError.TheVariants.{InvalidLength, ParseError}
 use Rattle.zv_map2d.specs.declared.error.EditError.{EditError}
-use Rattle.zv_map2d.specs.declared.error.EditError.TheVariants.{Frame, Ule, Keys0Joiner, Keys1Values, JoinerOrder, JoinerEnd, KeyOrder, Memory, Write}
+use Rattle.zv_map2d.specs.declared.error.EditError.TheVariants.{Frame, Ule, Memory, Write}
+use Rattle.zv_map2d.specs.declared.error.EditError.TheVariants.{Keys0Joiner, Keys1Values}
+use Rattle.zv_map2d.specs.declared.error.EditError.TheVariants.{JoinerOrder, JoinerEnd, KeyOrder}
 
--- what a command answers: a value that was found, that there is none, that a pair is new, a value that is no longer there,
--- that a value does not fit, or the pairs of a row
+-- what a command answers: a value that was found, that there is none, that a pair is new, a value
+-- that is no longer there, that a value does not fit, or the pairs of a row
 pub data Reply : Type 0 where
   some : List ℕ → Reply
   missing : Reply

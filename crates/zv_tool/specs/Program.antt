@@ -1,5 +1,6 @@
 -- What the program writes, and how it ends.
-use Rattle.std.specs.Prelude.{◌≡◌, ◌⊎◌, ◌≤◌, ℕ, Bool, true, false, List, [], ◌∷◌, length, codes, bytes_eq, Result, MatchOption, MatchResult, MatchBool, IfSome}
+use Rattle.std.specs.Prelude.{◌≡◌, ◌⊎◌, ◌≤◌, ℕ, Bool, true, false, List, [], ◌∷◌, length, codes}
+use Rattle.std.specs.Prelude.{bytes_eq, Result, MatchOption, MatchResult, MatchBool, IfSome}
 use Rattle.std.specs.declared.option.Option.{Option}
 use Rattle.std.specs.declared.option.Option.TheVariants.{Some, None}
 use Rattle.std.specs.declared.result.Result.TheVariants.{Ok, Err}
@@ -8,11 +9,12 @@ use Rattle.zv_map2d.specs.declared.error.EditError.{EditError}
 use Rattle.zv_map2d.specs.Image.{fault}
 use Rattle.zv_tool.specs.declared.command.Command.{Command}
 use Rattle.zv_tool.specs.declared.status.Status.{Status}
-use Rattle.zv_tool.specs.declared.status.Status.TheVariants.{Done, Usage, ReadFault, TooLong, BadLine, BadImage, Memory, WriteFault}
+use Rattle.zv_tool.specs.declared.status.Status.TheVariants.{Done, Usage, ReadFault, TooLong}
+use Rattle.zv_tool.specs.declared.status.Status.TheVariants.{BadLine, BadImage, Memory, WriteFault}
 use Rattle.zv_tool.specs.declared.input.TheConstants.{MAX_INPUT}
 use Rattle.zv_tool.specs.Answers.{IsAnswer}
 use Rattle.zv_tool.specs.Devices.{Rose, AppendsPrefix}
-use Rattle.zv_tool.specs.Input.{spoken}
+use Rattle.zv_tool.specs.Input.{parse_input}
 use Rattle.zv_tool.specs.Output.{bad_line, cause_line, usage_line}
 
 -- whether the words are `edit`
@@ -22,11 +24,14 @@ is_edit words = false
 
 -- A text that is wanted for this image and these commands.
 unfoldable pub ImageText : List ℕ → List Command → List ℕ → Type 0
-ImageText image cs text = MatchOption (fault image) (IsAnswer image cs text) (λ cause. text ≡ cause_line cause)
+ImageText image cs text =
+    MatchOption (fault image) (IsAnswer image cs text) (λ cause. text ≡ cause_line cause)
 
 -- A text that is wanted for this input.
 abbrev pub InputText : List ℕ → List ℕ → Type 0
-InputText input text = MatchResult (spoken input) (λ said. ImageText said.0 said.1 text) (λ number. text ≡ bad_line number)
+InputText input text = MatchResult (parse_input input)
+    (λ parsed. ImageText parsed.0 parsed.1 text)
+    (λ number. text ≡ bad_line number)
 
 -- A text that is wanted for these words and this input, which is within the limit.
 abbrev pub WantedText : List (List ℕ) → Option (List ℕ) → List ℕ → Type 0
@@ -43,15 +48,15 @@ status_of_fault (Some cause) = BadImage
 unfoldable pub status_of_image : List ℕ → Status
 status_of_image image = status_of_fault (fault image)
 
--- the status that an input leads to, by what it says
-abbrev pub status_of_spoken : Result (List ℕ × List Command) ℕ → Status
-status_of_spoken (Ok said) = status_of_image said.0
-status_of_spoken (Err number) = BadLine
+-- the status that an input leads to, by its image and commands or its first bad line
+abbrev pub status_of_parsed : Result (List ℕ × List Command) ℕ → Status
+status_of_parsed (Ok parsed) = status_of_image parsed.0
+status_of_parsed (Err number) = BadLine
 
 -- The status is the one that these words and this input lead to.
 abbrev pub IsWantedStatus : List (List ℕ) → Option (List ℕ) → Status → Type 0
 IsWantedStatus words input status = MatchBool (is_edit words)
-    (IfSome input (λ bytes. status ≡ status_of_spoken (spoken bytes)))
+    (IfSome input (λ bytes. status ≡ status_of_parsed (parse_input bytes)))
     (status ≡ Usage)
 
 -- A text that P has was taken whole.
@@ -61,11 +66,6 @@ Written P old new = (text : List ℕ) × P text × Appends old new text
 -- A prefix of a text that P has was taken.
 abbrev pub CutShort : (List ℕ → Type 0) → Option (List ℕ) → Option (List ℕ) → Type 0
 CutShort P old new = (text : List ℕ) × P text × AppendsPrefix old new text
-
--- An input within the limit, without a bad line, and whose image has no fault.
-pub record IsSound (input : List ℕ) : Type 0 where
-  pub within : length input ≤ MAX_INPUT
-  pub good : status_of_spoken (spoken input) ≡ Done
 
 -- whether a status says that the input was read to its end and answered
 abbrev pub is_answer : Status → Bool

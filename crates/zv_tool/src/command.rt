@@ -2,7 +2,7 @@
 ghost use Rattle.std.specs.Prelude.{◌≡◌, ◌-◌, ◌^◌, min};
 ghost use Rattle.zv_tool.specs.Commands.{command_size};
 
-use crate::compact::{CompactBytes, IN_PLACE};
+use crate::compact::CompactBytes;
 use std::alloc::Global;
 use std::marker::Model;
 use zv_ule::NoMemory;
@@ -35,43 +35,18 @@ impl KeyText {
         Ok(KeyText { bytes })
     }
 
-    /// The text that hex digits stand for, or `None` where they stand for no bytes or for bytes that aren't UTF-8
-    /// (RFC 3629). A short text takes no memory.
-    #[tactic(auto, using(crate::proofs::Keys::a_key, crate::proofs::Keys::no_key))]
+    /// The text that hex digits stand for, or `None` where they stand for no bytes or for bytes
+    /// that aren't UTF-8 (RFC 3629). A short text takes no memory.
     pub(crate) fn from_hex(alloc: Global, digits: &[u8]) -> Result<Option<KeyText>, NoMemory>
         ensures { IfOk result (λ k. k ≡ text_of_digits digits.now) }
     {
-        let len = digits.len() / 2;
-        if len > IN_PLACE {
-            return KeyText::from_long_hex(alloc, digits);
+        match CompactBytes::from_hex::<true>(alloc, digits)? {
+            Some(bytes) => Ok(Some(KeyText { bytes })),
+            None => Ok(None),
         }
-        let mut bytes = [0u8; IN_PLACE];
-        let place = &mut bytes[..len];
-        if hex::decode_to_slice(digits, place).is_err() {
-            return Ok(None);
-        }
-        if std::str::from_utf8(place).is_err() {
-            return Ok(None);
-        }
-        let bytes = CompactBytes::in_place(bytes, len);
-        Ok(Some(KeyText { bytes }))
     }
 
-    // The same for a key that takes memory. (A short key is checked before it is moved, which is faster.)
-    #[tactic(auto, using(crate::proofs::Keys::a_key, crate::proofs::Keys::no_key))]
-    fn from_long_hex(alloc: Global, digits: &[u8]) -> Result<Option<KeyText>, NoMemory>
-        ensures { IfOk result (λ k. k ≡ text_of_digits digits.now) }
-    {
-        let Some(bytes) = CompactBytes::from_hex(alloc, digits)? else {
-            return Ok(None);
-        };
-        if std::str::from_utf8(bytes.as_slice()).is_err() {
-            return Ok(None);
-        }
-        Ok(Some(KeyText { bytes }))
-    }
-
-    /// The text.
+    /// The text as it was given.
     pub fn as_str(&self) -> &str
         ensures { result.now ≡ self.now }
     {
@@ -112,17 +87,18 @@ impl ValueBytes {
         Ok(ValueBytes { bytes })
     }
 
-    /// The bytes that hex digits stand for, or `None` where they stand for none. Few bytes take no memory.
+    /// The bytes that hex digits stand for, or `None` where they stand for none. Few bytes take no
+    /// memory.
     pub(crate) fn from_hex(alloc: Global, digits: &[u8]) -> Result<Option<ValueBytes>, NoMemory>
         ensures { IfOk result (λ v. v ≡ bytes_of_digits digits.now) }
     {
-        match CompactBytes::from_hex(alloc, digits)? {
+        match CompactBytes::from_hex::<false>(alloc, digits)? {
             Some(bytes) => Ok(Some(ValueBytes { bytes })),
             None => Ok(None),
         }
     }
 
-    /// The bytes.
+    /// The bytes as they were given.
     pub fn as_bytes(&self) -> &[u8]
         ensures { result.now ≡ self.now }
     {
@@ -137,35 +113,27 @@ impl ValueBytes {
     }
 }
 
-/// What a line asks of the map.
+/// What a line asks of the map: its first keys are `key0`, its second keys `key1`.
 #[derive(Drop)]
 pub enum Command {
     /// The value of a pair of keys.
     Get {
-        /// The first key.
         key0: KeyText,
-        /// The second key.
         key1: KeyText,
     },
     /// A value for a pair of keys, new or in place of the one that the pair has.
     Put {
-        /// The first key.
         key0: KeyText,
-        /// The second key.
         key1: KeyText,
-        /// The value.
         value: ValueBytes,
     },
     /// The removal of a pair of keys.
     Del {
-        /// The first key.
         key0: KeyText,
-        /// The second key.
         key1: KeyText,
     },
     /// All pairs of a first key.
     Row {
-        /// The first key.
         key0: KeyText,
     },
 }

@@ -1,4 +1,7 @@
 // A list of commands.
+ghost use Rattle.std.specs.Prelude.{◌≡◌, [], ◌∷◌, ◌++◌, OnOk, OnErr, IfErr};
+ghost use Rattle.std.specs.Vec.{VecUnchanged};
+
 use crate::command::{Command, command_size};
 use std::alloc::Global;
 use std::marker::Model;
@@ -13,6 +16,18 @@ pub enum CommandsError {
     Full,
     /// No memory was given.
     Memory,
+}
+
+// Adds a command at the end.
+fn append(commands: &mut Vec<Command>, command: Command) -> Result<(), CommandsError>
+    ensures ok { OnOk result (commands.new.items ≡ commands.old.items ++ command ∷ []) }
+    ensures err { OnErr result (VecUnchanged commands.old commands.new) }
+    ensures memory { IfErr result (λ e. e ≡ CommandsError.Memory) }
+{
+    match commands.push(command) {
+        Ok(()) => Ok(()),
+        Err(_) => Err(CommandsError::Memory),
+    }
 }
 
 /// Commands, in order.
@@ -35,7 +50,8 @@ impl Model for Commands {
 }
 
 impl Commands {
-    ghost use Rattle.std.specs.Prelude.{◌≡◌, ◌+◌, ◌<◌, ◌↔◌, [], ◌∷◌, ◌++◌, length, IsTrue, OnOk, OnErr, IsErrOf, slice_get};
+    ghost use Rattle.std.specs.Prelude.{◌≡◌, ◌+◌, ◌<◌, ◌↔◌, [], ◌∷◌, ◌++◌, length, slice_get};
+    ghost use Rattle.std.specs.Prelude.{IsTrue, OnOk, OnErr, IsErrOf};
     ghost use Rattle.std.specs.Option.{option_copied};
     ghost use Rattle.zv_tool.specs.Commands.{total_size, command_size};
 
@@ -52,20 +68,17 @@ impl Commands {
     /// Adds a command, where the list stays within [`MAX_COMMANDS`].
     pub fn push(&mut self, command: Command) -> Result<(), CommandsError>
         ensures ok { OnOk result (self.new ≡ self.old ++ command ∷ []) }
-        ensures full { IsErrOf result CommandsError.Full ↔ (MAX_COMMANDS < total_size self.old + command_size command) }
+        ensures full { IsErrOf result CommandsError.Full
+            ↔ (MAX_COMMANDS < total_size self.old + command_size command) }
         ensures err { OnErr result (self.new ≡ self.old) }
     {
         let size = command_size(&command);
         if size > MAX_COMMANDS - self.size {
             return Err(CommandsError::Full);
         }
-        match self.commands.push(command) {
-            Ok(()) => {
-                self.size += size;
-                Ok(())
-            }
-            Err(_) => Err(CommandsError::Memory),
-        }
+        append(&mut self.commands, command)?;
+        self.size += size;
+        Ok(())
     }
 
     /// How many commands there are.

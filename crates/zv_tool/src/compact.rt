@@ -1,14 +1,15 @@
-// Bytes that are mostly few.
+// Bytes that stand in place where they are few, and are boxed where they are more.
 ghost use Rattle.std.specs.Prelude.{◌≡◌, ◌≤◌, IfOk, take};
-ghost use Rattle.zv_tool.specs.Input.{bytes_of_digits};
+ghost use Rattle.zv_tool.specs.Input.{content_of, is_content};
 
 use hex::FromHexError;
 use std::alloc::Global;
 use std::marker::Model;
 use zv_ule::NoMemory;
 
-/// The most bytes that stand in place. (12 are copied as two words that don't overlap; 14 would fit too, but are slower.)
-pub(crate) const IN_PLACE: usize = 12;
+// The most bytes that stand in place. (12 are copied as two words that don't overlap; 14 would fit
+// too, but are slower.)
+const IN_PLACE: usize = 12;
 
 // The vector is boxed so that either variant fits 16 bytes.
 #[derive(Drop)]
@@ -19,7 +20,19 @@ enum Stored {
 
 const _: () = prove!(size_of::<Stored>() == 16);
 
-/// Bytes that take 16 bytes of their own: up to 12 of them stand in place, and only more take memory.
+// Whether bytes can be what is wanted: a text is UTF-8 (RFC 3629).
+fn is_content(is_text: bool, bytes: &[u8]) -> bool
+    ensures { result ≡ is_content is_text bytes.now }
+{
+    if is_text {
+        std::str::from_utf8(bytes).is_ok()
+    } else {
+        true
+    }
+}
+
+/// Bytes that take 16 bytes of their own: up to 12 of them stand in place, and only more take
+/// memory.
 #[derive(Drop)]
 pub(crate) struct CompactBytes {
     stored: Stored,
@@ -49,34 +62,50 @@ impl CompactBytes {
         Ok(CompactBytes::in_place(place, bytes.len()))
     }
 
-    /// The bytes that hex digits stand for, or `None` where they stand for none. Up to 12 bytes take no memory.
-    pub(crate) fn from_hex(alloc: Global, digits: &[u8]) -> Result<Option<Self>, NoMemory>
-        ensures { IfOk result (λ b. b ≡ bytes_of_digits digits.now) }
+    /// The bytes that hex digits stand for, or `None` where they stand for none, or where a text is
+    /// wanted and they aren't UTF-8. Up to 12 bytes take no memory. (They are checked before they
+    /// are moved, which is faster.)
+    pub(crate) fn from_hex<const IS_TEXT: bool>(
+        alloc: Global,
+        digits: &[u8],
+    ) -> Result<Option<Self>, NoMemory>
+        ensures { IfOk result (λ b. b ≡ content_of IS_TEXT digits.now) }
     {
         let len = digits.len() / 2;
         if len > IN_PLACE {
-            return CompactBytes::from_long_hex(alloc, digits);
+            return CompactBytes::from_long_hex::<IS_TEXT>(alloc, digits);
         }
-        let mut place = [0u8; IN_PLACE];
-        match hex::decode_to_slice(digits, &mut place[..len]) {
-            Ok(()) => Ok(Some(CompactBytes::in_place(place, len))),
-            Err(_) => Ok(None),
+        let mut bytes = [0u8; IN_PLACE];
+        let place = &mut bytes[..len];
+        if hex::decode_to_slice(digits, place).is_err() {
+            return Ok(None);
         }
+        if !is_content(IS_TEXT, place) {
+            return Ok(None);
+        }
+        Ok(Some(CompactBytes::in_place(bytes, len)))
     }
 
     // The same for bytes that take memory.
-    fn from_long_hex(alloc: Global, digits: &[u8]) -> Result<Option<Self>, NoMemory>
-        ensures { IfOk result (λ b. b ≡ bytes_of_digits digits.now) }
+    fn from_long_hex<const IS_TEXT: bool>(
+        alloc: Global,
+        digits: &[u8],
+    ) -> Result<Option<Self>, NoMemory>
+        ensures { IfOk result (λ b. b ≡ content_of IS_TEXT digits.now) }
     {
-        match hex::decode(alloc, digits) {
-            Ok(bytes) => Ok(Some(CompactBytes::boxed(alloc, bytes)?)),
-            Err(FromHexError::OutOfMemory) => Err(NoMemory),
-            Err(_) => Ok(None),
+        let bytes = match hex::decode(alloc, digits) {
+            Ok(bytes) => bytes,
+            Err(FromHexError::OutOfMemory) => return Err(NoMemory),
+            Err(_) => return Ok(None),
+        };
+        if !is_content(IS_TEXT, &bytes) {
+            return Ok(None);
         }
+        Ok(Some(CompactBytes::boxed(alloc, bytes)?))
     }
 
-    /// The first bytes of an array.
-    pub(crate) fn in_place(bytes: [u8; IN_PLACE], len: usize) -> Self
+    // The first bytes of an array.
+    fn in_place(bytes: [u8; IN_PLACE], len: usize) -> Self
         requires { len ≤ IN_PLACE }
         ensures { result ≡ take len bytes }
     {
@@ -86,8 +115,8 @@ impl CompactBytes {
         }
     }
 
-    /// The bytes of a vector.
-    pub(crate) fn boxed(alloc: Global, bytes: Vec<u8>) -> Result<Self, NoMemory>
+    // The bytes of a vector.
+    fn boxed(alloc: Global, bytes: Vec<u8>) -> Result<Self, NoMemory>
         ensures { IfOk result (λ b. b ≡ bytes.items) }
     {
         match Box::new(alloc, bytes) {
@@ -98,7 +127,7 @@ impl CompactBytes {
         }
     }
 
-    /// The bytes.
+    /// The bytes, wherever they stand.
     pub(crate) fn as_slice(&self) -> &[u8]
         ensures { result.now ≡ self.now }
     {

@@ -11,7 +11,8 @@ pub struct Failed;
 
 /// What gives bytes.
 ///
-/// Proofs see of a source the bytes that are left, where it tells them, and a count of faults that never falls.
+/// Proofs see of a source the bytes that are left, where it tells them, and a count of faults that
+/// never falls.
 pub trait Source {
     /// The bytes that are left, where the source tells them.
     ghost left: { Self → Option (List ℕ) };
@@ -19,8 +20,8 @@ pub trait Source {
     /// How often the source failed. The count stops at the last value of a u64.
     ghost faults: { Self → ℕ };
 
-    /// Puts the next bytes at the front of `buf`, and answers how many. None into a buffer that isn't empty is the
-    /// end. A read that fails loses no byte.
+    /// Puts the next bytes at the front of `buf`, and answers how many. None into a buffer that
+    /// isn't empty is the end. A read that fails loses no byte.
     fn read(&mut self, buf: &mut [u8]) -> Result<usize, Failed>
         ensures bound { ReadsAtMost result buf.new }
         ensures bytes { ReadConsumes (left self.old) (left self.new) result buf.new }
@@ -29,7 +30,8 @@ pub trait Source {
 
 /// What takes bytes.
 ///
-/// Proofs see of a sink the bytes that it took, where it tells them, and a count of faults that never falls.
+/// Proofs see of a sink the bytes that it took, where it tells them, and a count of faults that
+/// never falls.
 pub trait Sink {
     /// The bytes that were taken, where the sink tells them.
     ghost taken: { Self → Option (List ℕ) };

@@ -23,14 +23,18 @@ pub(crate) enum ReadError {
     Memory,
 }
 
-/// Reads a source to its end. Each read gives a byte or is the last, so at most 16,777,217 reads are made.
+/// Reads a source to its end. Each read gives a byte or is the last, so at most 16,777,217 reads
+/// are made.
 pub(crate) fn read_input<S: Source>(alloc: Global, source: &mut S) -> Result<Vec<u8>, ReadError>
-    ensures whole { IfOk result (λ bytes. IfSome (S.left source.old) (λ input. bytes.items ≡ input)) }
+    ensures whole { IfOk result (λ bytes.
+        IfSome (S.left source.old) (λ input. bytes.items ≡ input)) }
     ensures end { OnOk result (IsAtEnd (S.left source.new)) }
     ensures within { IfOk result (λ bytes. length bytes.items ≤ MAX_INPUT) }
     ensures later { S.faults source.old ≤ S.faults source.new }
-    ensures fault { IsErrOf result ReadError.Fault → Rose (S.faults source.old) (S.faults source.new) }
-    ensures long { IsErrOf result ReadError.TooLong → IfSome (S.left source.old) (λ input. MAX_INPUT < length input) }
+    ensures fault { IsErrOf result ReadError.Fault
+        → Rose (S.faults source.old) (S.faults source.new) }
+    ensures long { IsErrOf result ReadError.TooLong
+        → IfSome (S.left source.old) (λ input. MAX_INPUT < length input) }
 {
     let mut bytes = Vec::new(alloc);
     let mut piece = [0u8; PIECE];

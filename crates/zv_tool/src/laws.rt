@@ -1,10 +1,11 @@
 // What an edit leaves.
-ghost use Rattle.zv_tool.specs.Laws.{LeftStands, SameEdits, SpokenTexts, WrittenBack};
+ghost use Rattle.zv_tool.specs.Laws.{KeysAreTexts, LeftStands, SameEdits, WrittenBack};
 
-/// The image that an edit ends with can be edited again: it stands for the map that the commands left. Two images are
-/// those of one map exactly where an edit with no commands writes the same for both. It does nothing.
+/// The image that an edit ends with can be edited again: it stands for the map that the commands
+/// left. Two images are those of one map exactly where an edit with no commands writes the same for
+/// both. It does nothing.
 pub fn laws()
-    ensures spoken { SpokenTexts }
+    ensures texts { KeysAreTexts }
     ensures left { LeftStands }
     ensures same { SameEdits }
     ensures again { WrittenBack }

@@ -1,4 +1,5 @@
-//! The outside of the program: where bytes come from and go to, what an input says, and what it is answered.
+//! The program without its `main`: the devices that it reads and writes, the commands of its input,
+//! and what they are answered.
 #![tactic(auto)]
 
 mod command;
@@ -9,7 +10,6 @@ mod edit;
 mod input;
 pub mod laws;
 mod lines;
-mod map;
 mod memory;
 mod output;
 mod parse;

@@ -1,12 +1,31 @@
 // Lines, words and fields.
-ghost use Rattle.std.specs.Prelude.{◌≡◌, ◌+◌, ◌<◌, ◌≤◌, [], ◌∷◌, length, IfOk, MatchOption, Some, None};
-ghost use Rattle.zv_tool.specs.Input.{lines, words, field, key};
+ghost use Rattle.std.specs.Prelude.{◌≡◌, ◌+◌, ◌<◌, ◌≤◌, [], ◌∷◌, length};
+ghost use Rattle.std.specs.Prelude.{IfOk, MatchOption, Some, None};
+ghost use Rattle.std.specs.List.{slice_split};
+ghost use Rattle.memchr.specs.Find.{is_byte};
+ghost use Rattle.zv_tool.specs.Input.{lines, words, one_word, two_words, three_words};
+ghost use Rattle.zv_tool.specs.Input.{bytes_of_digits, field, key};
 
 use crate::command::{KeyText, ValueBytes};
 use hex::FromHexError;
 use memchr::memchr;
 use std::alloc::Global;
 use zv_ule::NoMemory;
+
+// What stands before the first such byte, and what follows it, if there is one.
+fn split_at_byte(byte: u8, text: &[u8]) -> (&[u8], Option<&[u8]>)
+    ensures split { MatchOption result.1
+        (slice_split (is_byte byte) text.now ≡ text.now ∷ [])
+        (λ rest. slice_split (is_byte byte) text.now
+        ≡ result.0.now ∷ slice_split (is_byte byte) rest.now) }
+    ensures cut { MatchOption result.1 (result.0.now ≡ text.now)
+        (λ rest. length result.0.now + length rest.now + 1 ≡ length text.now) }
+{
+    match memchr(byte, text) {
+        Some(end) => (&text[..end], Some(&text[end + 1..])),
+        None => (text, None),
+    }
+}
 
 /// The first line, and what follows it.
 pub(crate) fn cut_line(text: &[u8]) -> (&[u8], &[u8])
@@ -15,27 +34,71 @@ pub(crate) fn cut_line(text: &[u8]) -> (&[u8], &[u8])
     ensures shorter { length result.1.now < length text.now }
     ensures fits { length result.0.now + length result.1.now ≤ length text.now }
 {
-    match memchr(b'\n', text) {
-        Some(end) => (&text[..end], &text[end + 1..]),
-        None => (text, &text[text.len()..]),
+    let (line, rest) = split_at_byte(b'\n', text);
+    match rest {
+        Some(rest) => (line, rest),
+        None => (line, &text[text.len()..]),
     }
 }
 
 /// The first word, and what follows the space after it, if there is one.
 pub(crate) fn cut_word(text: &[u8]) -> (&[u8], Option<&[u8]>)
-    ensures { MatchOption result.1 (words text.now ≡ result.0.now ∷ []) (λ rest. words text.now ≡ result.0.now ∷ words rest.now) }
+    ensures { MatchOption result.1 (words text.now ≡ result.0.now ∷ [])
+        (λ rest. words text.now ≡ result.0.now ∷ words rest.now) }
 {
-    match memchr(b' ', text) {
-        Some(end) => (&text[..end], Some(&text[end + 1..])),
-        None => (text, None),
+    split_at_byte(b' ', text)
+}
+
+/// The word of a text that has no other.
+pub(crate) fn only_word(text: &[u8]) -> Option<&[u8]>
+    ensures { MatchOption result (one_word (words text.now) ≡ None)
+        (λ a. one_word (words text.now) ≡ Some a.now) }
+{
+    let (a, rest) = cut_word(text);
+    match rest {
+        Some(_others) => None,
+        None => Some(a),
+    }
+}
+
+/// The words of a text that has two.
+pub(crate) fn two_words(text: &[u8]) -> Option<(&[u8], &[u8])>
+    ensures { MatchOption result (two_words (words text.now) ≡ None)
+        (λ pair. two_words (words text.now) ≡ Some (pair.0.now, pair.1.now)) }
+{
+    let (a, rest) = cut_word(text);
+    let b = only_word(rest?)?;
+    Some((a, b))
+}
+
+/// The words of a text that has three.
+pub(crate) fn three_words(text: &[u8]) -> Option<(&[u8], &[u8], &[u8])>
+    ensures { MatchOption result (three_words (words text.now) ≡ None)
+        (λ triple. three_words (words text.now)
+        ≡ Some (triple.0.now, triple.1.now, triple.2.now)) }
+{
+    let (a, rest) = cut_word(text);
+    let (b, c) = two_words(rest?)?;
+    Some((a, b, c))
+}
+
+// What follows the `x` of a field. Only a field has one, but its digits may be wrong.
+fn digits_of(word: &[u8]) -> Option<&[u8]>
+    ensures { MatchOption result (field word.now ≡ None)
+        (λ digits. field word.now ≡ bytes_of_digits digits.now) }
+{
+    match word {
+        [b'x', digits @ ..] => Some(digits),
+        _ => None,
     }
 }
 
 /// The bytes of a field, or `None` where the word is no field.
 pub(crate) fn read_field(alloc: Global, word: &[u8]) -> Result<Option<Vec<u8>>, NoMemory>
-    ensures { IfOk result (λ f. MatchOption f (field word.now ≡ None) (λ bytes. field word.now ≡ Some bytes.items)) }
+    ensures { IfOk result (λ f. MatchOption f (field word.now ≡ None)
+        (λ bytes. field word.now ≡ Some bytes.items)) }
 {
-    let [b'x', digits @ ..] = word else {
+    let Some(digits) = digits_of(word) else {
         return Ok(None);
     };
     match hex::decode(alloc, digits) {
@@ -49,18 +112,19 @@ pub(crate) fn read_field(alloc: Global, word: &[u8]) -> Result<Option<Vec<u8>>, 
 pub(crate) fn read_key(alloc: Global, word: &[u8]) -> Result<Option<KeyText>, NoMemory>
     ensures { IfOk result (λ k. k ≡ key word.now) }
 {
-    let [b'x', digits @ ..] = word else {
-        return Ok(None);
-    };
-    KeyText::from_hex(alloc, digits)
+    match digits_of(word) {
+        Some(digits) => KeyText::from_hex(alloc, digits),
+        None => Ok(None),
+    }
 }
 
-/// The bytes of a field that are a value, or `None` where the word is no field. Few bytes take no memory.
+/// The bytes of a field that are a value, or `None` where the word is no field. Few bytes take no
+/// memory.
 pub(crate) fn read_value(alloc: Global, word: &[u8]) -> Result<Option<ValueBytes>, NoMemory>
     ensures { IfOk result (λ v. v ≡ field word.now) }
 {
-    let [b'x', digits @ ..] = word else {
-        return Ok(None);
-    };
-    ValueBytes::from_hex(alloc, digits)
+    match digits_of(word) {
+        Some(digits) => ValueBytes::from_hex(alloc, digits),
+        None => Ok(None),
+    }
 }

@@ -32,11 +32,17 @@ pub struct MemSource {
 
 impl Model for MemSource {
     ghost use Rattle.std.specs.Prelude.{◌≤◌, ◌<◌, length, drop, vec_len};
-    ghost use Rattle.zv_tool.specs.Memory.{Feed};
+    ghost use Rattle.zv_tool.specs.Memory.{SourceState};
 
-    ghost Value = { Feed };
+    ghost Value = { SourceState };
 
-    ghost view = { λ s. record { left = drop s.at s.bytes.items; piece = s.piece; failing = s.failing.items; call = s.call; faults = s.faults } };
+    ghost view = { λ s. record {
+      left = drop s.at s.bytes.items;
+      piece = s.piece;
+      failing = s.failing.items;
+      call = s.call;
+      faults = s.faults;
+    } };
 
     ghost invariant = { λ s. (s.at ≤ vec_len s.bytes) × (0 < s.piece) };
 }
@@ -44,7 +50,8 @@ impl Model for MemSource {
 impl MemSource {
     ghost use Rattle.std.specs.Prelude.{IfOk, ◌≡◌, ◌<◌};
 
-    /// A source of a copy of `bytes`. One read gives at most `piece` of them; the reads in `failing` fail, and no other.
+    /// A source of a copy of `bytes`. One read gives at most `piece` of them; the reads in
+    /// `failing` fail, and no other.
     pub fn new(
         alloc: Global,
         bytes: &[u8],
@@ -52,7 +59,13 @@ impl MemSource {
         failing: &[usize],
     ) -> Result<MemSource, NoMemory>
         requires { 0 < piece }
-        ensures { IfOk result (λ s. s ≡ record { left = bytes.now; piece = piece; failing = failing.now; call = 0; faults = 0 }) }
+        ensures { IfOk result (λ s. s ≡ record {
+          left = bytes.now;
+          piece = piece;
+          failing = failing.now;
+          call = 0;
+          faults = 0;
+        }) }
     {
         let bytes = Vec::from_slice(alloc, bytes)?;
         let failing = Vec::from_slice(alloc, failing)?;
@@ -68,7 +81,8 @@ impl MemSource {
 }
 
 impl Source for MemSource {
-    ghost use Rattle.std.specs.Prelude.{◌≡◌, ◌<◌, ◌≤◌, ℕ, ◌↔◌, List, length, take, min, Some, MatchResult, Contains, IsErr, IfOk, OnErr};
+    ghost use Rattle.std.specs.Prelude.{◌≡◌, ◌↔◌, length, min, Some};
+    ghost use Rattle.std.specs.Prelude.{Contains, IsErr, IfOk, OnErr};
     ghost use Rattle.std.specs.Io.{ReadsAtMost};
     ghost use Rattle.std.specs.Io.KnownBytes.{ReadConsumes};
     ghost use Rattle.zv_tool.specs.Devices.{HasCause};
@@ -83,7 +97,8 @@ impl Source for MemSource {
         ensures bytes { ReadConsumes (Some self.old.left) (Some self.new.left) result buf.new }
         ensures cause { HasCause self.old.faults self.new.faults result }
         ensures fails { IsErr result ↔ Contains self.old.failing self.old.call }
-        ensures count { IfOk result (λ n. n ≡ min (length buf.old) (min self.old.piece (length self.old.left))) }
+        ensures count { IfOk result (λ n. n
+            ≡ min (length buf.old) (min self.old.piece (length self.old.left))) }
         ensures ok { IfOk result (λ n. self.new ≡ after_read self.old n) }
         ensures err { OnErr result (self.new ≡ after_fault self.old) }
     {
@@ -99,10 +114,11 @@ impl Source for MemSource {
     }
 }
 
-/// A sink in memory: takes bytes as far as its room goes, and fails at the writes that a list names.
+/// A sink in memory: takes bytes as far as its room goes, and fails at the writes that a list
+/// names.
 ///
-/// Writes are numbered from 0. A write whose piece is longer than the room left takes what fits, and fails. Where no
-/// write is named, a count of faults above 0 means that the room is full.
+/// Writes are numbered from 0. A write whose piece is longer than the room left takes what fits,
+/// and fails. Where no write is named, a count of faults above 0 means that the room is full.
 #[derive(Drop)]
 pub struct MemSink {
     taken: Vec<u8>,
@@ -115,11 +131,18 @@ pub struct MemSink {
 
 impl Model for MemSink {
     ghost use Rattle.std.specs.Prelude.{◌≡◌, ◌≤◌, ◌<◌, [], length, vec_len, vec_capacity};
-    ghost use Rattle.zv_tool.specs.Memory.{Tray};
+    ghost use Rattle.zv_tool.specs.Memory.{SinkState};
 
-    ghost Value = { Tray };
+    ghost Value = { SinkState };
 
-    ghost view = { λ s. record { taken = s.taken.items; room = s.room; keep = s.keep; failing = s.failing.items; call = s.call; faults = s.faults } };
+    ghost view = { λ s. record {
+      taken = s.taken.items;
+      room = s.room;
+      keep = s.keep;
+      failing = s.failing.items;
+      call = s.call;
+      faults = s.faults;
+    } };
 
     ghost invariant = { λ s. (vec_len s.taken ≤ s.room) × (s.room ≤ vec_capacity s.taken)
         × (s.failing.items ≡ [] → 0 < s.faults → vec_len s.taken ≡ s.room) };
@@ -128,15 +151,22 @@ impl Model for MemSink {
 impl MemSink {
     ghost use Rattle.std.specs.Prelude.{IfOk, ◌≡◌, ◌<◌, [], length};
 
-    /// A sink that takes `room` bytes, for which it takes the memory at once. The writes in `failing` fail with at most
-    /// `keep` bytes of their piece taken.
+    /// A sink that takes `room` bytes, for which it takes the memory at once. The writes in
+    /// `failing` fail with at most `keep` bytes of their piece taken.
     pub fn new(
         alloc: Global,
         room: usize,
         keep: usize,
         failing: &[usize],
     ) -> Result<MemSink, NoMemory>
-        ensures { IfOk result (λ s. s ≡ record { taken = []; room = room; keep = keep; failing = failing.now; call = 0; faults = 0 }) }
+        ensures { IfOk result (λ s. s ≡ record {
+          taken = [];
+          room = room;
+          keep = keep;
+          failing = failing.now;
+          call = 0;
+          faults = 0;
+        }) }
     {
         let taken = Vec::with_capacity(alloc, room)?;
         let failing = Vec::from_slice(alloc, failing)?;
@@ -153,8 +183,10 @@ impl MemSink {
     /// The bytes that were taken so far.
     pub fn taken(&self) -> &[u8]
         ensures bytes { result.now ≡ self.now.taken }
-        ensures full { self.now.failing ≡ [] → 0 < self.now.faults → length self.now.taken ≡ self.now.room }
+        ensures full { self.now.failing ≡ [] → 0 < self.now.faults
+            → length self.now.taken ≡ self.now.room }
     {
+        // This line opens the value, so that its invariant is known.
         let _ = &self.room;
         &self.taken
     }

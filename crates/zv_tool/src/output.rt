@@ -30,7 +30,8 @@ fn push_hex(out: &mut Vec<u8>, bytes: &[u8]) -> Result<(), NoMemory>
 
 /// Adds a line of a head, which ends with the mark of a field, and the hex digits of a value.
 pub(crate) fn push_value(out: &mut Vec<u8>, head: &[u8], value: &[u8]) -> Result<(), NoMemory>
-    ensures { OnOk result (out.new.items ≡ out.old.items ++ line (head.now ++ encode_lower value.now)) }
+    ensures { OnOk result (out.new.items
+        ≡ out.old.items ++ line (head.now ++ encode_lower value.now)) }
 {
     out.extend_from_slice(head)?;
     push_hex(out, value)?;

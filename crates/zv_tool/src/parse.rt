@@ -1,12 +1,15 @@
-// Reads what an input says.
+// Parses the input into an image and commands.
 ghost use Rattle.std.specs.Prelude.{◌≡◌, ◌+◌, ◌≤◌, [], ◌∷◌, ◌++◌, length, IfOk, IfErr, OnOk, Ok};
 ghost use Rattle.zv_tool.specs.Commands.{total_size, command_size};
-ghost use Rattle.zv_tool.specs.Input.{lines, words, get, put, del, row, command_of, commands, spoken, Tells};
+ghost use Rattle.zv_tool.specs.Input.{lines, words, get, put, del, row, command_of};
+ghost use Rattle.zv_tool.specs.Input.{command_of_words, commands, parse_input, ReportsLine};
 
 use crate::command::Command;
 use crate::commands::{Commands, CommandsError, MAX_COMMANDS};
 use crate::input::MAX_INPUT;
-use crate::lines::{cut_line, cut_word, read_field, read_key, read_value};
+use crate::lines::{
+    cut_line, cut_word, only_word, read_field, read_key, read_value, three_words, two_words,
+};
 use std::alloc::Global;
 use zv_ule::NoMemory;
 
@@ -29,19 +32,21 @@ impl From<NoMemory> for InputError {
     }
 }
 
-/// What an input says.
+/// An image and commands.
 #[derive(Drop)]
 pub(crate) struct Request {
-    /// The image's bytes.
     pub image: Vec<u8>,
     /// What is asked of the image's map.
     pub commands: Commands,
 }
 
-// The look-up of two words, or `None` where one is no key.
-fn read_get(alloc: Global, a: &[u8], b: &[u8]) -> Result<Option<Command>, NoMemory>
-    ensures { IfOk result (λ c. c ≡ get a.now b.now) }
+// A look-up, of which two keys are the fields.
+fn read_get(alloc: Global, fields: &[u8]) -> Result<Option<Command>, NoMemory>
+    ensures { IfOk result (λ command. command ≡ get (words fields.now)) }
 {
+    let Some((a, b)) = two_words(fields) else {
+        return Ok(None);
+    };
     let Some(key0) = read_key(alloc, a)? else {
         return Ok(None);
     };
@@ -51,10 +56,13 @@ fn read_get(alloc: Global, a: &[u8], b: &[u8]) -> Result<Option<Command>, NoMemo
     }
 }
 
-// The third word for the pair of the others, or `None` where one of those is no key, or it is no field.
-fn read_put(alloc: Global, a: &[u8], b: &[u8], c: &[u8]) -> Result<Option<Command>, NoMemory>
-    ensures { IfOk result (λ command. command ≡ put a.now b.now c.now) }
+// A value for a pair, of which two keys and the value are the fields.
+fn read_put(alloc: Global, fields: &[u8]) -> Result<Option<Command>, NoMemory>
+    ensures { IfOk result (λ command. command ≡ put (words fields.now)) }
 {
+    let Some((a, b, c)) = three_words(fields) else {
+        return Ok(None);
+    };
     let Some(key0) = read_key(alloc, a)? else {
         return Ok(None);
     };
@@ -67,10 +75,13 @@ fn read_put(alloc: Global, a: &[u8], b: &[u8], c: &[u8]) -> Result<Option<Comman
     }
 }
 
-// The removal of two words, or `None` where one is no key.
-fn read_del(alloc: Global, a: &[u8], b: &[u8]) -> Result<Option<Command>, NoMemory>
-    ensures { IfOk result (λ c. c ≡ del a.now b.now) }
+// A removal, of which two keys are the fields.
+fn read_del(alloc: Global, fields: &[u8]) -> Result<Option<Command>, NoMemory>
+    ensures { IfOk result (λ command. command ≡ del (words fields.now)) }
 {
+    let Some((a, b)) = two_words(fields) else {
+        return Ok(None);
+    };
     let Some(key0) = read_key(alloc, a)? else {
         return Ok(None);
     };
@@ -80,77 +91,43 @@ fn read_del(alloc: Global, a: &[u8], b: &[u8]) -> Result<Option<Command>, NoMemo
     }
 }
 
-// The pairs of a word, or `None` where it is no key.
-fn read_row(alloc: Global, a: &[u8]) -> Result<Option<Command>, NoMemory>
-    ensures { IfOk result (λ c. c ≡ row a.now) }
+// The pairs of a row, of which a key is the field.
+fn read_row(alloc: Global, fields: &[u8]) -> Result<Option<Command>, NoMemory>
+    ensures { IfOk result (λ command. command ≡ row (words fields.now)) }
 {
+    let Some(a) = only_word(fields) else {
+        return Ok(None);
+    };
     match read_key(alloc, a)? {
         Some(key0) => Ok(Some(Command::Row { key0 })),
         None => Ok(None),
     }
 }
 
-// The command of two words, or `None` where they are none.
-fn read_two(alloc: Global, name: &[u8], a: &[u8]) -> Result<Option<Command>, NoMemory>
-    ensures { IfOk result (λ c. c ≡ command_of (name.now ∷ a.now ∷ [])) }
-{
-    if name == b"row".as_slice() {
-        read_row(alloc, a)
-    } else {
-        Ok(None)
-    }
-}
-
-// The command of three words, or `None` where they are none.
-fn read_three(alloc: Global, name: &[u8], a: &[u8], b: &[u8]) -> Result<Option<Command>, NoMemory>
-    ensures { IfOk result (λ c. c ≡ command_of (name.now ∷ a.now ∷ b.now ∷ [])) }
+// The command of a name and its fields, or `None` where they are none.
+fn read_named(alloc: Global, name: &[u8], fields: &[u8]) -> Result<Option<Command>, NoMemory>
+    ensures { IfOk result (λ command. command ≡ command_of name.now (words fields.now)) }
 {
     if name == b"get".as_slice() {
-        read_get(alloc, a, b)
+        read_get(alloc, fields)
+    } else if name == b"put".as_slice() {
+        read_put(alloc, fields)
     } else if name == b"del".as_slice() {
-        read_del(alloc, a, b)
+        read_del(alloc, fields)
+    } else if name == b"row".as_slice() {
+        read_row(alloc, fields)
     } else {
         Ok(None)
     }
 }
 
-// The command of four words, or `None` where they are none.
-fn read_four(
-    alloc: Global,
-    name: &[u8],
-    a: &[u8],
-    b: &[u8],
-    c: &[u8],
-) -> Result<Option<Command>, NoMemory>
-    ensures { IfOk result (λ command. command ≡ command_of (name.now ∷ a.now ∷ b.now ∷ c.now ∷ [])) }
-{
-    if name == b"put".as_slice() {
-        read_put(alloc, a, b, c)
-    } else {
-        Ok(None)
-    }
-}
-
-// The command of a line, or `None` where the line is no command.
+// The command of a line, or `None` where the line is none.
 fn read_command(alloc: Global, line: &[u8]) -> Result<Option<Command>, NoMemory>
-    ensures { IfOk result (λ c. c ≡ command_of (words line.now)) }
+    ensures { IfOk result (λ command. command ≡ command_of_words (words line.now)) }
 {
-    let (name, rest) = cut_word(line);
-    let Some(rest) = rest else {
-        return Ok(None);
-    };
-    let (a, rest) = cut_word(rest);
-    let Some(rest) = rest else {
-        return read_two(alloc, name, a);
-    };
-    let (b, rest) = cut_word(rest);
-    let Some(rest) = rest else {
-        return read_three(alloc, name, a, b);
-    };
-    let (c, rest) = cut_word(rest);
-    match rest {
-        Some(_more) => Ok(None),
-        None => read_four(alloc, name, a, b, c),
+    match cut_word(line) {
+        (name, Some(fields)) => read_named(alloc, name, fields),
+        (_, None) => Ok(None),
     }
 }
 
@@ -166,11 +143,12 @@ fn keep(commands: &mut Commands, command: Command) -> Result<(), NoMemory>
     }
 }
 
-// The commands of the lines from the second on. A command is no larger than its line, so the list has room for all.
+// The commands of the lines from the second on. A command is no larger than its line, so the list
+// has room for all.
 fn read_commands(alloc: Global, text: &[u8]) -> Result<Commands, InputError>
     requires { length text.now ≤ MAX_COMMANDS }
     ensures ok { IfOk result (λ list. commands 2 (lines text.now) ≡ Ok list) }
-    ensures err { IfErr result (Tells (commands 2 (lines text.now))) }
+    ensures err { IfErr result (ReportsLine (commands 2 (lines text.now))) }
 {
     let mut list = Commands::new(alloc);
     let mut rest = text;
@@ -187,12 +165,12 @@ fn read_commands(alloc: Global, text: &[u8]) -> Result<Commands, InputError>
     Ok(list)
 }
 
-/// What an input says: an image in hex, and a command a line.
-#[tactic(auto, unfolding(crate::specs::Input::spoken))]
+/// Parses an input: an image in hex, and a command a line.
+#[tactic(auto, unfolding(crate::specs::Input::parse_input))]
 pub(crate) fn read_request(alloc: Global, input: &[u8]) -> Result<Request, InputError>
     requires { length input.now ≤ MAX_INPUT }
-    ensures ok { IfOk result (λ r. spoken input.now ≡ Ok (r.image.items, r.commands)) }
-    ensures err { IfErr result (Tells (spoken input.now)) }
+    ensures ok { IfOk result (λ r. parse_input input.now ≡ Ok (r.image.items, r.commands)) }
+    ensures err { IfErr result (ReportsLine (parse_input input.now)) }
 {
     if input.is_empty() {
         return Err(InputError::BadLine(1));

@@ -3,9 +3,12 @@ ghost use Rattle.std.specs.Prelude.{◌≡◌, ◌⊎◌, ◌<◌, ◌≤◌, Is
 ghost use Rattle.std.specs.Io.KnownBytes.{Appends, IsAtEnd};
 ghost use Rattle.zv_map2d.specs.Causes.{is_cause};
 ghost use Rattle.zv_tool.specs.Devices.{Rose, AppendsPrefix};
-ghost use Rattle.zv_tool.specs.Input.{spoken};
+ghost use Rattle.zv_tool.specs.Input.{parse_input};
 ghost use Rattle.zv_tool.specs.Output.{bad_line, cause_line};
-ghost use Rattle.zv_tool.specs.Program.{is_edit, is_answer, is_silent, is_written, ImageText, InputText, WantedText, IsSound, IsWantedStatus, status_of_image, status_of_spoken, Sent, Written, CutShort};
+ghost use Rattle.zv_tool.specs.Program.{is_edit, is_answer, is_silent, is_written};
+ghost use Rattle.zv_tool.specs.Program.{ImageText, InputText, WantedText, IsWantedStatus};
+ghost use Rattle.zv_tool.specs.Program.{status_of_image, status_of_parsed};
+ghost use Rattle.zv_tool.specs.Program.{Sent, Written, CutShort};
 
 use crate::device::{Failed, Sink, Source};
 use crate::edit::edit2d;
@@ -19,7 +22,9 @@ use zv_ule::UleError;
 
 // Writes a text.
 fn send<K: Sink>(sink: &mut K, text: &[u8], status: Status) -> Status
-    ensures { Sent result status text.now (K.taken sink.old) (K.taken sink.new) (K.faults sink.old) (K.faults sink.new) }
+    ensures sent { Sent result status text.now (K.taken sink.old) (K.taken sink.new)
+        (K.faults sink.old) (K.faults sink.new) }
+    ensures later { K.faults sink.old ≤ K.faults sink.new }
 {
     match sink.write(text) {
         Ok(()) => status,
@@ -47,15 +52,22 @@ fn cause_text(cause: EditError) -> &'static [u8]
 
 // Answers an image and commands.
 #[tactic(auto, using(crate::proofs::Refusals::sound_text, crate::proofs::Refusals::sound_status))]
-fn respond<K: Sink>(alloc: Global, said: &Request, sink: &mut K) -> Status
-    ensures written { IsTrue (is_answer result) → Written (ImageText said.now.image.items said.now.commands) (K.taken sink.old) (K.taken sink.new) }
-    ensures answer { IsTrue (is_answer result) → result ≡ status_of_image said.now.image.items }
-    ensures status { IsTrue (is_answer result) ⊎ (result ≡ Status.Memory) ⊎ (result ≡ Status.WriteFault) }
+fn respond<K: Sink>(alloc: Global, request: &Request, sink: &mut K) -> Status
+    ensures written { IsTrue (is_answer result)
+        → Written (ImageText request.now.image.items request.now.commands)
+        (K.taken sink.old) (K.taken sink.new) }
+    ensures answer { IsTrue (is_answer result)
+        → result ≡ status_of_image request.now.image.items }
+    ensures status { IsTrue (is_answer result)
+        ⊎ (result ≡ Status.Memory) ⊎ (result ≡ Status.WriteFault) }
     ensures memory { result ≡ Status.Memory → sink.new ≡ sink.old }
-    ensures cut { result ≡ Status.WriteFault → CutShort (ImageText said.now.image.items said.now.commands) (K.taken sink.old) (K.taken sink.new) }
+    ensures cut { result ≡ Status.WriteFault
+        → CutShort (ImageText request.now.image.items request.now.commands)
+        (K.taken sink.old) (K.taken sink.new) }
     ensures fault { result ≡ Status.WriteFault → Rose (K.faults sink.old) (K.faults sink.new) }
+    ensures later { K.faults sink.old ≤ K.faults sink.new }
 {
-    match edit2d(alloc, &said.image, &said.commands, sink) {
+    match edit2d(alloc, &request.image, &request.commands, sink) {
         Ok(()) => Status::Done,
         Err(EditError::Memory) => Status::Memory,
         Err(EditError::Write) => Status::WriteFault,
@@ -65,11 +77,15 @@ fn respond<K: Sink>(alloc: Global, said: &Request, sink: &mut K) -> Status
 
 // Names the first bad line.
 fn name_line<K: Sink>(alloc: Global, number: u64, sink: &mut K) -> Status
-    ensures written { IsTrue (is_answer result) → (result ≡ Status.BadLine) × Appends (K.taken sink.old) (K.taken sink.new) (bad_line number) }
-    ensures status { IsTrue (is_answer result) ⊎ (result ≡ Status.Memory) ⊎ (result ≡ Status.WriteFault) }
+    ensures written { IsTrue (is_answer result) → (result ≡ Status.BadLine)
+        × Appends (K.taken sink.old) (K.taken sink.new) (bad_line number) }
+    ensures status { IsTrue (is_answer result)
+        ⊎ (result ≡ Status.Memory) ⊎ (result ≡ Status.WriteFault) }
     ensures memory { result ≡ Status.Memory → sink.new ≡ sink.old }
-    ensures cut { result ≡ Status.WriteFault → AppendsPrefix (K.taken sink.old) (K.taken sink.new) (bad_line number) }
+    ensures cut { result ≡ Status.WriteFault
+        → AppendsPrefix (K.taken sink.old) (K.taken sink.new) (bad_line number) }
     ensures fault { result ≡ Status.WriteFault → Rose (K.faults sink.old) (K.faults sink.new) }
+    ensures later { K.faults sink.old ≤ K.faults sink.new }
 {
     let Ok(text) = format!(in alloc; "error line {number}\n") else {
         return Status::Memory;
@@ -80,68 +96,90 @@ fn name_line<K: Sink>(alloc: Global, number: u64, sink: &mut K) -> Status
 // Answers an input, which is let go of before the answer is built.
 fn answer<K: Sink>(alloc: Global, input: Vec<u8>, sink: &mut K) -> Status
     requires { length input.items ≤ MAX_INPUT }
-    ensures written { IsTrue (is_answer result) → Written (InputText input.items) (K.taken sink.old) (K.taken sink.new) }
-    ensures answer { IsTrue (is_answer result) → result ≡ status_of_spoken (spoken input.items) }
-    ensures status { IsTrue (is_answer result) ⊎ (result ≡ Status.Memory) ⊎ (result ≡ Status.WriteFault) }
+    ensures written { IsTrue (is_answer result)
+        → Written (InputText input.items) (K.taken sink.old) (K.taken sink.new) }
+    ensures answer { IsTrue (is_answer result)
+        → result ≡ status_of_parsed (parse_input input.items) }
+    ensures status { IsTrue (is_answer result)
+        ⊎ (result ≡ Status.Memory) ⊎ (result ≡ Status.WriteFault) }
     ensures memory { result ≡ Status.Memory → sink.new ≡ sink.old }
-    ensures cut { result ≡ Status.WriteFault → CutShort (InputText input.items) (K.taken sink.old) (K.taken sink.new) }
+    ensures cut { result ≡ Status.WriteFault
+        → CutShort (InputText input.items) (K.taken sink.old) (K.taken sink.new) }
     ensures fault { result ≡ Status.WriteFault → Rose (K.faults sink.old) (K.faults sink.new) }
+    ensures later { K.faults sink.old ≤ K.faults sink.new }
 {
-    let said = read_request(alloc, &input);
+    let parsed = read_request(alloc, &input);
     drop(input);
-    match said {
+    match parsed {
         Ok(request) => respond(alloc, &request, sink),
         Err(InputError::BadLine(number)) => name_line(alloc, number, sink),
         Err(InputError::Memory) => Status::Memory,
     }
 }
 
-// Whether the words are a command form.
-fn is_form(words: &Words) -> bool
+// Whether the words are `edit`.
+fn is_edit(words: &Words) -> bool
     ensures { result ≡ is_edit words.now }
 {
     words.len() == 1 && words.get(0) == Some("edit")
 }
 
-/// All that the program does: reads the source to its end, answers to the sink, and says how it ended.
+/// All that the program does: reads the source to its end, answers to the sink, and says how it
+/// ended.
 ///
-/// The one command form is `edit`. Line 1 of the input is `x` and an image in hex; each further line is a command, which
-/// runs on the map that those before it left:
+/// The one command form is `edit`. Line 1 of the input is `x` and an image in hex; each further
+/// line is a command, which runs on the map that those before it left:
 ///
 /// - `get K K` looks up a pair of keys, and is answered `some xV`, or `none`;
-/// - `put K K F` gives a pair a value, and is answered `new`, `old xV` with the value that the pair had, or `toolarge`,
-///   which changes nothing;
+/// - `put K K F` gives a pair a value, and is answered `new`, `old xV` with the value that the pair
+///   had, or `toolarge`, which changes nothing;
 /// - `del K K` removes a pair, and is answered `old xV`, or `none`;
-/// - `row K` lists the pairs of a first key in order, and is answered `row` and ` xK xV` for each, or `none`.
+/// - `row K` lists the pairs of a first key in order, and is answered `row` and ` xK xV` for each,
+///   or `none`.
 ///
-/// A field F is `x` and an even number of hex digits in either case; a key K is a field that is UTF-8. One space stands
-/// between words. Lines end in LF, which may be missing after the last. All lines are checked before the image. The
-/// answer ends with `image xI`, the canonical image of the map that is left; its hex is in lower case. A refusal is one
-/// line, `error line N`, or `error` and the word of the image's first fault.
+/// A field F is `x` and an even number of hex digits in either case; a key K is a field that is
+/// UTF-8. One space stands between words. Lines end in LF, which may be missing after the last. All
+/// lines are checked before the image. The answer ends with `image xI`, the canonical image of the
+/// map that is left; its hex is in lower case. A refusal is one line, `error line N`, or `error`
+/// and the word of the image's first fault.
 pub fn run<S: Source, K: Sink>(alloc: Global, words: &Words, source: &mut S, sink: &mut K) -> Status
     // Where a text is due, it is the one that the words and the whole input want.
-    ensures written { IsTrue (is_written result) → Written (WantedText words.now (S.left source.old)) (K.taken sink.old) (K.taken sink.new) }
-    ensures status { IsTrue (is_written result) → IsWantedStatus words.now (S.left source.old) result }
+    ensures written { IsTrue (is_written result)
+        → Written (WantedText words.now (S.left source.old)) (K.taken sink.old) (K.taken sink.new) }
+    ensures status { IsTrue (is_written result)
+        → IsWantedStatus words.now (S.left source.old) result }
     ensures silent { IsTrue (is_silent result) → sink.new ≡ sink.old }
-    ensures cut { result ≡ Status.WriteFault → CutShort (WantedText words.now (S.left source.old)) (K.taken sink.old) (K.taken sink.new) }
+    ensures cut { result ≡ Status.WriteFault
+        → CutShort (WantedText words.now (S.left source.old))
+        (K.taken sink.old) (K.taken sink.new) }
 
     // An answer is to the whole input.
     ensures end { IsTrue (is_answer result) → IsAtEnd (S.left source.new) }
 
-    // A sound input is answered, unless something fails or memory is refused.
-    ensures complete { IsTrue (is_edit words.now) → IfSome (S.left source.old) (λ input. IsSound input →
-        (result ≡ Status.Done) ⊎ (result ≡ Status.Memory)
-        ⊎ Rose (S.faults source.old) (S.faults source.new) ⊎ Rose (K.faults sink.old) (K.faults sink.new)) }
+    // An input within the limit is answered, unless something fails or memory is refused.
+    ensures complete { IsTrue (is_edit words.now) → IfSome (S.left source.old) (λ input.
+        length input ≤ MAX_INPUT → (result ≡ status_of_parsed (parse_input input))
+        ⊎ (result ≡ Status.Memory)
+        ⊎ Rose (S.faults source.old) (S.faults source.new)
+        ⊎ Rose (K.faults sink.old) (K.faults sink.new)) }
 
     // When each of the others comes.
     ensures usage { result ≡ Status.Usage → IsFalse (is_edit words.now) }
-    ensures no_form { IsFalse (is_edit words.now) → (result ≡ Status.Usage) ⊎ (result ≡ Status.WriteFault) }
+    ensures no_form { IsFalse (is_edit words.now)
+        → (result ≡ Status.Usage) ⊎ (result ≡ Status.WriteFault) }
     ensures untouched { IsFalse (is_edit words.now) → source.new ≡ source.old }
-    ensures read_fault { result ≡ Status.ReadFault → Rose (S.faults source.old) (S.faults source.new) }
-    ensures too_long { result ≡ Status.TooLong → IfSome (S.left source.old) (λ input. MAX_INPUT < length input) }
-    ensures write_fault { result ≡ Status.WriteFault → Rose (K.faults sink.old) (K.faults sink.new) }
+    ensures read_fault { result ≡ Status.ReadFault
+        → Rose (S.faults source.old) (S.faults source.new) }
+    ensures too_long { result ≡ Status.TooLong
+        → IfSome (S.left source.old) (λ input. MAX_INPUT < length input) }
+    ensures write_fault { result ≡ Status.WriteFault
+        → Rose (K.faults sink.old) (K.faults sink.new) }
+
+    // The counts of faults never fall.
+    ensures later_reads { S.faults source.old ≤ S.faults source.new }
+    ensures later_writes { K.faults sink.old ≤ K.faults sink.new }
 {
-    if !is_form(words) {
+    if !is_edit(words) {
         return send(sink, b"usage: zv COMMAND\n", Status::Usage);
     }
     match read_input(alloc, source) {

@@ -1,10 +1,15 @@
-// Devices over std's readers and writers, which tell no content.
-ghost use Rattle.std.specs.Prelude.{◌≡◌, None};
+// Devices over std's readers and writers.
+ghost use Rattle.std.specs.Prelude.{◌≡◌, OnOk};
+ghost use Rattle.std.specs.Io.KnownBytes.{Appends};
+ghost use Rattle.zv_tool.specs.Devices.{AppendsPrefix, Takes};
 
 use crate::device::{Failed, Sink, Source};
 use std::io::{Read, Write};
 
-/// A source over a reader of std. It tells no content; a read fails where the reader's does.
+/// A source over a reader of std. A read fails where the reader's does.
+///
+/// It tells the bytes that are left where the reader tells them; a file, a pipe and a terminal tell
+/// none.
 #[derive(Drop)]
 pub struct StdSource<R> {
     reader: R,
@@ -14,14 +19,15 @@ pub struct StdSource<R> {
 impl<R: Read> StdSource<R> {
     /// A source that hasn't failed yet.
     pub fn new(reader: R) -> StdSource<R>
-        ensures { ⟦<StdSource<R> as Source>⟧.faults result ≡ 0 }
+        ensures left { ⟦<StdSource<R> as Source>⟧.left result ≡ R.remaining reader }
+        ensures faults { ⟦<StdSource<R> as Source>⟧.faults result ≡ 0 }
     {
         StdSource { reader, faults: 0 }
     }
 }
 
 impl<R: Read> Source for StdSource<R> {
-    ghost left = { λ _. None };
+    ghost left = { λ s. R.remaining s.reader };
 
     ghost faults = { λ s. s.faults };
 
@@ -36,8 +42,11 @@ impl<R: Read> Source for StdSource<R> {
     }
 }
 
-/// A sink over a writer of std. It tells no content. A write hands the whole piece over and flushes; it fails where the
+/// A sink over a writer of std. A write hands the whole piece over and flushes; it fails where the
 /// writer does, and where the writer takes nothing of a piece that isn't empty.
+///
+/// It tells the bytes that were taken where the writer tells them; a file, a pipe and a terminal
+/// tell none.
 #[derive(Drop)]
 pub struct StdSink<W> {
     writer: W,
@@ -47,14 +56,15 @@ pub struct StdSink<W> {
 impl<W: Write> StdSink<W> {
     /// A sink that hasn't failed yet.
     pub fn new(writer: W) -> StdSink<W>
-        ensures { ⟦<StdSink<W> as Sink>⟧.faults result ≡ 0 }
+        ensures taken { ⟦<StdSink<W> as Sink>⟧.taken result ≡ W.contents writer }
+        ensures faults { ⟦<StdSink<W> as Sink>⟧.faults result ≡ 0 }
     {
         StdSink { writer, faults: 0 }
     }
 }
 
 impl<W: Write> Sink for StdSink<W> {
-    ghost taken = { λ _. None };
+    ghost taken = { λ s. W.contents s.writer };
 
     ghost faults = { λ s. s.faults };
 
@@ -70,7 +80,9 @@ impl<W: Write> Sink for StdSink<W> {
 }
 
 // Writes the whole piece and flushes. A writer that takes nothing has failed.
-fn write_whole<W: Write>(writer: &mut W, piece: &[u8]) -> Result<(), Failed> {
+fn write_whole<W: Write>(writer: &mut W, piece: &[u8]) -> Result<(), Failed>
+    ensures { Takes (W.contents writer.old) (W.contents writer.new) result piece.now }
+{
     let mut rest = piece;
     while !rest.is_empty() {
         match writer.write(rest) {

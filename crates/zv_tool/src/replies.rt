@@ -7,7 +7,7 @@ ghost use Rattle.zv_tool.specs.Output.{pair_text, text};
 
 use crate::command::{Command, KeyText, ValueBytes};
 use crate::commands::Commands;
-use crate::map::{ImageMap, put_value};
+use crate::edit::{ImageMap, put_value};
 use crate::output::{push_image, push_pair, push_value};
 use std::alloc::Global;
 use zv_map2d::{Iter1, Map2dError};
@@ -20,7 +20,8 @@ fn push_get(
     key0: &KeyText,
     key1: &KeyText,
 ) -> Result<(), NoMemory>
-    ensures { OnOk result (out.new.items ≡ out.old.items ++ text (reply map.now.rows (Command.Get key0.now key1.now))) }
+    ensures { OnOk result (out.new.items
+        ≡ out.old.items ++ text (reply map.now.rows (Command.Get key0.now key1.now))) }
 {
     match map.get_2d(&key0.as_str(), &key1.as_str()) {
         Some(value) => push_value(out, b"some x", value.as_bytes()),
@@ -37,8 +38,10 @@ fn push_put(
     key1: &KeyText,
     value: &ValueBytes,
 ) -> Result<(), NoMemory>
-    ensures text { OnOk result (out.new.items ≡ out.old.items ++ text (reply map.old.rows (Command.Put key0.now key1.now value.now))) }
-    ensures left { OnOk result (map.new.rows ≡ next map.old.rows (Command.Put key0.now key1.now value.now)) }
+    ensures text { OnOk result (out.new.items ≡ out.old.items
+        ++ text (reply map.old.rows (Command.Put key0.now key1.now value.now))) }
+    ensures left { OnOk result (map.new.rows
+        ≡ next map.old.rows (Command.Put key0.now key1.now value.now)) }
 {
     match put_value(alloc, map, key0.as_str(), key1.as_str(), value.as_bytes()) {
         Ok(Some(old)) => push_value(out, b"old x", old.as_bytes()),
@@ -57,8 +60,10 @@ fn push_del(
     key0: &KeyText,
     key1: &KeyText,
 ) -> Result<(), NoMemory>
-    ensures text { OnOk result (out.new.items ≡ out.old.items ++ text (reply map.old.rows (Command.Del key0.now key1.now))) }
-    ensures left { OnOk result (map.new.rows ≡ next map.old.rows (Command.Del key0.now key1.now)) }
+    ensures text { OnOk result (out.new.items
+        ≡ out.old.items ++ text (reply map.old.rows (Command.Del key0.now key1.now))) }
+    ensures left { OnOk result (map.new.rows
+        ≡ next map.old.rows (Command.Del key0.now key1.now)) }
 {
     match map.remove(alloc, &key0.as_str(), &key1.as_str())? {
         Some(old) => push_value(out, b"old x", old.as_bytes()),
@@ -68,7 +73,8 @@ fn push_del(
 
 // Adds the pairs of a row to its line.
 fn push_pairs(out: &mut Vec<u8>, pairs: Iter1<'_, StrULE, SliceULE<u8>>) -> Result<(), NoMemory>
-    ensures { OnOk result (out.new.items ≡ out.old.items ++ flat_map pair_text (left_of pairs.entry)) }
+    ensures { OnOk result (out.new.items
+        ≡ out.old.items ++ flat_map pair_text (left_of pairs.entry)) }
 {
     for (key, value) in pairs {
         push_pair(out, key.as_bytes(), value.as_bytes())?;
@@ -78,7 +84,8 @@ fn push_pairs(out: &mut Vec<u8>, pairs: Iter1<'_, StrULE, SliceULE<u8>>) -> Resu
 
 // Adds the reply with a row.
 fn push_row(out: &mut Vec<u8>, map: &ImageMap<'_>, key0: &KeyText) -> Result<(), NoMemory>
-    ensures { OnOk result (out.new.items ≡ out.old.items ++ text (reply map.now.rows (Command.Row key0.now))) }
+    ensures { OnOk result (out.new.items
+        ≡ out.old.items ++ text (reply map.now.rows (Command.Row key0.now))) }
 {
     let Some(row) = map.get0(&key0.as_str()) else {
         return Ok(out.extend_from_slice(b"none\n")?);
@@ -96,7 +103,8 @@ fn push_reply(
     map: &mut ImageMap<'_>,
     command: &Command,
 ) -> Result<(), NoMemory>
-    ensures text { OnOk result (out.new.items ≡ out.old.items ++ text (reply map.old.rows command.now)) }
+    ensures text { OnOk result (out.new.items
+        ≡ out.old.items ++ text (reply map.old.rows command.now)) }
     ensures left { OnOk result (map.new.rows ≡ next map.old.rows command.now) }
 {
     match command {
@@ -123,8 +131,8 @@ fn reply_lines(
     Ok(out)
 }
 
-/// Runs commands on the map, and gives the whole answer: a line for each, and the line of the canonical image of the map
-/// that they leave.
+/// Runs commands on the map, and gives the whole answer: a line for each, and the line of the
+/// canonical image of the map that they leave.
 pub(crate) fn answer_text(
     alloc: Global,
     map: &mut ImageMap<'_>,

@@ -55,8 +55,8 @@ impl<'a> Source for SteadySource<'a> {
 
 /// A sink that keeps only a count of the bytes it takes, and never fails.
 ///
-/// The count of bytes stops at the last value of a u64. The count of faults is always 0, so over it no call answers that
-/// its sink failed.
+/// The count of bytes stops at the last value of a u64. The count of faults is always 0, so over it
+/// no call answers that its sink failed.
 #[derive(Drop)]
 pub struct CountSink {
     count: u64,

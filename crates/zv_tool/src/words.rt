@@ -20,7 +20,8 @@ impl Model for Words {
 }
 
 impl Words {
-    ghost use Rattle.std.specs.Prelude.{◌≡◌, ◌↔◌, [], ◌∷◌, ◌++◌, length, IsTrue, OnOk, OnErr, slice_get};
+    ghost use Rattle.std.specs.Prelude.{◌≡◌, ◌↔◌, [], ◌∷◌, ◌++◌, length, slice_get};
+    ghost use Rattle.std.specs.Prelude.{IsTrue, OnOk, OnErr};
     ghost use Rattle.std.specs.Option.{option_copied};
 
     /// No words. It takes no memory yet.

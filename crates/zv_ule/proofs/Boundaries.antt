@@ -12,8 +12,10 @@ past n e h = grind (arith, nat_tests)
 char_boundary : (d : List ℕ) (a : ℕ) → a ≤ length d → text_boundary d a ≡ true → IsCharBoundary d a
 char_boundary d a h e = (h, λ within low. past (slice_index d a) e low)
 
-pub text_between : (d : List ℕ) (a b : ℕ) → is_utf8 d ≡ true → a ≤ b → b ≤ length d → text_boundary d a ≡ true → text_boundary d b ≡ true → text_fault (slice_range d a b) ≡ None
-text_between d a b t h k x y = text_good (slice_range d a b) (IsUtf8-between d a b (IsUtf8-from_is_utf8 d t) h (char_boundary d a (omega arith) x) (char_boundary d b k y))
+pub text_between : (d : List ℕ) (a b : ℕ) → is_utf8 d ≡ true → a ≤ b → b ≤ length d → text_boundary d a ≡ true → text_boundary d b ≡ true →
+    text_fault (slice_range d a b) ≡ None
+text_between d a b t h k x y = text_good (slice_range d a b) (IsUtf8-between d a b (IsUtf8-from_is_utf8 d t) h (char_boundary d a (omega arith) x)
+    (char_boundary d b k y))
 
 pub ascii_between : (d : List ℕ) (a b : ℕ) → IsAscii d → text_fault (slice_range d a b) ≡ None
 ascii_between d a b h = text_good (slice_range d a b) (IsUtf8-from_ascii (slice_range d a b) (IsAscii-take (drop a d) (b - a) (IsAscii-drop d a h)))

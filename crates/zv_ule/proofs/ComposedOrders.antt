@@ -1,19 +1,22 @@
 -- Composed values that compare Equal have parts that do.
-use Rattle.std.proofs.Common.{◌≡◌, Some, None, refl, ap}
+use Rattle.std.proofs.Common.{◌≡◌, List, [], ◌∷◌, Some, None, refl, ap}
+use Rattle.std.specs.Cmp.Lexicographic.{slice_cmp}
+use Rattle.std.specs.List.{AllByRecursion}
 use Rattle.std.specs.Prelude.{IfSome}
 use Rattle.std.specs.Option.{option_cmp}
 use Rattle.std.specs.Ordering.{ordering_then}
 use Rattle.std.specs.declared.cmp.Ordering.{Ordering}
 use Rattle.std.specs.declared.cmp.Ordering.TheVariants.{Less, Equal, Greater}
 use Rattle.zv_ule.specs.Orders.{EqualOnlyIfSame}
-use Rattle.zv_ule.specs.PairSpellings.{made_alike}
+use Rattle.zv_ule.specs.laws.PairSpellings.{made_alike}
 
 pub both_equal : (a b : Ordering) → ordering_then a b ≡ Equal → (a ≡ Equal) × (b ≡ Equal)
 both_equal Less b e = cc
 both_equal Equal b e = (refl, e)
 both_equal Greater b e = cc
 
-pub same_options : {T : Type 0} {is_value : T → Type 0} {cmp : T → T → Ordering} → EqualOnlyIfSame is_value cmp → EqualOnlyIfSame (λ o. IfSome o is_value) (option_cmp cmp)
+pub same_options : {T : Type 0} {is_value : T → Type 0} {cmp : T → T → Ordering} → EqualOnlyIfSame is_value cmp → EqualOnlyIfSame (λ o. IfSome o is_value)
+    (option_cmp cmp)
 same_options same None None h k e = refl
 same_options same None (Some w) h k e = cc
 same_options same (Some v) None h k e = cc
@@ -43,3 +46,14 @@ pub same_six : {A B C D E F : Type 0} (v w : A × B × C × D × E × F) → v.0
 same_six {A} {B} {C} {D} {E} {F} v w p0 p1 p2 p3 p4 p5 =
     let make : A → B → C → D → E → F → A × B × C × D × E × F = λ a b c d e f. (a, b, c, d, e, f) in
     made_alike (λ f x. f x) (made_alike (λ f x. f x) (made_alike (λ f x. f x) (made_alike (λ f x. f x) (made_alike make p0 p1) p2) p3) p4) p5
+
+pub same_lists : {T : Type 0} {is_value : T → Type 0} {cmp : T → T → Ordering} → EqualOnlyIfSame is_value cmp → (xs ys : List T) → AllByRecursion is_value xs →
+    AllByRecursion is_value ys → slice_cmp cmp xs ys ≡ Equal → xs ≡ ys
+same_lists same [] [] h k e = refl
+same_lists same [] (y ∷ ys) h k e = cc
+same_lists same (x ∷ xs) [] h k e = cc
+same_lists {cmp = cmp} same (x ∷ xs) (y ∷ ys) h k e =
+    let p = both_equal (cmp x y) (slice_cmp cmp xs ys) e in
+    let first = same x y h.0 k.0 p.0 in
+    let rest = same_lists same xs ys h.1 k.1 p.1 in
+    λ i. first i ∷ rest i

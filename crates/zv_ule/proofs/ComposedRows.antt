@@ -8,24 +8,22 @@ use Rattle.zv_ule.specs.Chunks.{chunks_fault, chunks_of, first_fault, values_of}
 use Rattle.zv_ule.specs.Kinds.{one_fault}
 use Rattle.zv_ule.specs.Niches.{niche_fault, niche_value}
 use Rattle.zv_ule.specs.NonZero.{non_zero_fault, non_zero_of, non_zero_value}
-use Rattle.zv_ule.specs.Options.{option_chunk, option_fault, option_value}
+use Rattle.zv_ule.specs.Options.{option_chunk, option_value}
 use Rattle.zv_ule.specs.Pairs.{pair_fault, read_pair, read_three}
-use Rattle.zv_ule.specs.declared.error.TyName.TheVariants.{Array, Bool as BoolName, Char, NichedOpt, NonZeroU8 as NonZeroU8Name, Opt, Tuple2}
+use Rattle.zv_ule.specs.declared.error.TyName.TheVariants.{Array, Bool as BoolName, Char, NichedOpt, NonZeroU8 as NonZeroU8Name, Tuple2}
 use Rattle.zv_ule.specs.declared.error.UleError.TheVariants.{InvalidLength, ParseError}
 
 -- ---- tuples
 
 -- (1, 'a'), (1234901, '啊'), (100, 'अ')
-three_pairs : values_of 7 (read_pair 4 (from_le_bytes w32) char_code) (1 ∷ 0 ∷ 0 ∷ 0 ∷ 97 ∷ 0 ∷ 0 ∷ 213 ∷ 215 ∷ 18 ∷ 0 ∷ 74 ∷ 85 ∷ 0 ∷ 100 ∷ 0 ∷ 0 ∷ 0 ∷ 5 ∷ 9 ∷ 0 ∷ [])
+three_pairs : values_of 7 (read_pair 4 (from_le_bytes w32) char_code)
+    (1 ∷ 0 ∷ 0 ∷ 0 ∷ 97 ∷ 0 ∷ 0 ∷ 213 ∷ 215 ∷ 18 ∷ 0 ∷ 74 ∷ 85 ∷ 0 ∷ 100 ∷ 0 ∷ 0 ∷ 0 ∷ 5 ∷ 9 ∷ 0 ∷ [])
     ≡ (1, 97) ∷ (1234901, 21834) ∷ (100, 2309) ∷ []
 three_pairs = refl
 
-good_pairs : chunks_fault Tuple2 7 (pair_fault 4 (λ _. None) char_fault) (1 ∷ 0 ∷ 0 ∷ 0 ∷ 97 ∷ 0 ∷ 0 ∷ 213 ∷ 215 ∷ 18 ∷ 0 ∷ 74 ∷ 85 ∷ 0 ∷ 100 ∷ 0 ∷ 0 ∷ 0 ∷ 5 ∷ 9 ∷ 0 ∷ []) ≡ None
+good_pairs : chunks_fault Tuple2 7 (pair_fault 4 (λ _. None) char_fault)
+    (1 ∷ 0 ∷ 0 ∷ 0 ∷ 97 ∷ 0 ∷ 0 ∷ 213 ∷ 215 ∷ 18 ∷ 0 ∷ 74 ∷ 85 ∷ 0 ∷ 100 ∷ 0 ∷ 0 ∷ 0 ∷ 5 ∷ 9 ∷ 0 ∷ []) ≡ None
 good_pairs = refl
-
--- the same bytes as a character and a number: the second chunk begins with 0x12D7D5
-bad_pairs : chunks_fault Tuple2 7 (pair_fault 3 char_fault (λ _. None)) (1 ∷ 0 ∷ 0 ∷ 0 ∷ 97 ∷ 0 ∷ 0 ∷ 213 ∷ 215 ∷ 18 ∷ 0 ∷ 74 ∷ 85 ∷ 0 ∷ 100 ∷ 0 ∷ 0 ∷ 0 ∷ 5 ∷ 9 ∷ 0 ∷ []) ≡ Some (ParseError Char)
-bad_pairs = refl
 
 six_bytes : chunks_fault Tuple2 7 (pair_fault 4 (λ _. None) char_fault) (1 ∷ 0 ∷ 0 ∷ 0 ∷ 97 ∷ 0 ∷ []) ≡ Some (InvalidLength Tuple2 6)
 six_bytes = refl
@@ -51,24 +49,11 @@ none = refl
 read_none : option_value (λ b. b) (0 ∷ 0 ∷ 0 ∷ []) ≡ None
 read_none = refl
 
--- the error of a value is the value's own
-bad_value : chunks_fault Opt 2 (option_fault bool_fault) (1 ∷ 2 ∷ []) ≡ Some (ParseError BoolName)
-bad_value = refl
-
-bad_tag : chunks_fault Opt 2 (option_fault bool_fault) (2 ∷ 0 ∷ []) ≡ Some (ParseError Opt)
-bad_tag = refl
-
-not_zeros : chunks_fault Opt 2 (option_fault (λ _. None)) (0 ∷ 5 ∷ []) ≡ Some (ParseError Opt)
-not_zeros = refl
-
 -- ---- options without a tag
 
 -- one is some 1, and 0 is none
 niches : values_of 1 (niche_value (0 ∷ []) non_zero_value) (1 ∷ 0 ∷ []) ≡ Some (non_zero_of 1) ∷ None ∷ []
 niches = refl
-
-good_niches : chunks_fault NichedOpt 1 (niche_fault (0 ∷ []) non_zero_fault) (1 ∷ 0 ∷ []) ≡ None
-good_niches = refl
 
 no_niche : one_fault NichedOpt 1 (niche_fault (0 ∷ []) non_zero_fault) [] ≡ Some (InvalidLength NichedOpt 0)
 no_niche = refl
@@ -80,9 +65,6 @@ by_two = refl
 
 by_three : chunks_fault Array 3 (λ _. None) (1 ∷ 2 ∷ 3 ∷ 4 ∷ 5 ∷ 6 ∷ []) ≡ None
 by_three = refl
-
-by_four : chunks_fault Array 4 (λ _. None) (1 ∷ 2 ∷ 3 ∷ 4 ∷ 5 ∷ 6 ∷ []) ≡ Some (InvalidLength Array 6)
-by_four = refl
 
 by_five : chunks_fault Array 5 (λ _. None) (1 ∷ 2 ∷ 3 ∷ 4 ∷ 5 ∷ 6 ∷ []) ≡ Some (InvalidLength Array 6)
 by_five = refl

@@ -16,7 +16,9 @@ use Rattle.zv_ule.specs.Fixed.{IsChunk, IsListOf, IsSpelling, IsTwin}
 use Rattle.zv_ule.proofs.Lists.{joined_fault, joined_values, read_list}
 
 -- a type that is stored as another one spells what that spells
-pub through_twin : {V U : Type 0} {is_value : V → Type 0} {is_stored : U → Type 0} {to : V → U} {from : U → V} {w : ℕ} {f : List ℕ → Option UleError} {chunk : U → List ℕ} {value : List ℕ → U} → IsTwin is_value is_stored to from → IsSpelling is_stored w f chunk value → IsSpelling is_value w f (λ v. chunk (to v)) (λ b. from (value b))
+pub through_twin : {V U : Type 0} {is_value : V → Type 0} {is_stored : U → Type 0} {to : V → U} {from : U → V} {w : ℕ} {f : List ℕ → Option UleError}
+    {chunk : U → List ℕ} {value : List ℕ → U} → IsTwin is_value is_stored to from → IsSpelling is_stored w f chunk value →
+    IsSpelling is_value w f (λ v. chunk (to v)) (λ b. from (value b))
 through_twin {to = to} {from = from} {chunk = chunk} {value = value} t s = record {
   writes = λ v h. s.writes (to v) (t.stored v h);
   back = λ v h. ap from (s.back (to v) (t.stored v h)) ∙ t.back v h;
@@ -24,17 +26,21 @@ through_twin {to = to} {from = from} {chunk = chunk} {value = value} t s = recor
   again = λ b h. ap chunk (t.again (value b) (s.reads b h)) ∙ s.again b h;
 }
 
-pub exact : {V : Type 0} {is_value : V → Type 0} {w : ℕ} {f : List ℕ → Option UleError} {chunk : V → List ℕ} {value : List ℕ → V} (s : IsSpelling is_value w f chunk value) (ty : TyName) → 0 < w → (b : List ℕ) → IsBytes b → (chunks_fault ty w f b ≡ None) ↔ ((vs : List V) × IsListOf is_value chunk b vs)
+pub exact : {V : Type 0} {is_value : V → Type 0} {w : ℕ} {f : List ℕ → Option UleError} {chunk : V → List ℕ} {value : List ℕ → V}
+    (s : IsSpelling is_value w f chunk value) (ty : TyName) → 0 < w → (b : List ℕ) → IsBytes b → (chunks_fault ty w f b ≡ None) ↔
+    ((vs : List V) × IsListOf is_value chunk b vs)
 exact {w = w} {f = f} {value = value} s ty pos b each = (
   λ h. let r = read_list s ty b each h in (map value (chunks_of w b), record { values = r.values; joined = sym r.joined }),
   λ p. ap (λ x. chunks_fault ty w f x) p.1.joined ∙ joined_fault s ty p.0 p.1.values pos,
 )
 
 -- the values that are read are those that the bytes are the chunks of
-pub only : {V : Type 0} {is_value : V → Type 0} {w : ℕ} {f : List ℕ → Option UleError} {chunk : V → List ℕ} {value : List ℕ → V} (s : IsSpelling is_value w f chunk value) → 0 < w → (b : List ℕ) (vs : List V) → IsListOf is_value chunk b vs → values_of w value b ≡ vs
+pub only : {V : Type 0} {is_value : V → Type 0} {w : ℕ} {f : List ℕ → Option UleError} {chunk : V → List ℕ} {value : List ℕ → V}
+    (s : IsSpelling is_value w f chunk value) → 0 < w → (b : List ℕ) (vs : List V) → IsListOf is_value chunk b vs → values_of w value b ≡ vs
 only {w = w} {value = value} s pos b vs l = ap (values_of w value) l.joined ∙ joined_values s vs l.values pos
 
-pub one_chunk : {V : Type 0} {is_value : V → Type 0} {w : ℕ} {f : List ℕ → Option UleError} {chunk : V → List ℕ} {value : List ℕ → V} (s : IsSpelling is_value w f chunk value) (v : V) (b : List ℕ) → IsChunk w f b → value b ≡ v → b ≡ chunk v
+pub one_chunk : {V : Type 0} {is_value : V → Type 0} {w : ℕ} {f : List ℕ → Option UleError} {chunk : V → List ℕ} {value : List ℕ → V}
+    (s : IsSpelling is_value w f chunk value) (v : V) (b : List ℕ) → IsChunk w f b → value b ≡ v → b ≡ chunk v
 one_chunk {chunk = chunk} s v b c e = sym (s.again b c) ∙ ap chunk e
 
 pub uneven : (ty : TyName) (w : ℕ) (f : List ℕ → Option UleError) (b : List ℕ) → 0 < length b % w → chunks_fault ty w f b ≡ Some (InvalidLength ty (length b))
@@ -59,6 +65,8 @@ first f (c ∷ cs) e h = elim (here_or_later (f c) (first_fault f cs) e h) [
 ]
 
 -- lists of bytes that compare Equal are the same, and so are the bytes that they are read from
-pub same_values : {w : ℕ} {f : List ℕ → Option UleError} {is_value : ℕ → Type 0} {chunk : ℕ → List ℕ} {value : List ℕ → ℕ} (s : IsSpelling is_value w f chunk value) (ty : TyName) (a b : List ℕ) → IsBytes a → IsBytes b → chunks_fault ty w f a ≡ None → chunks_fault ty w f b ≡ None → slice_cmp nat_cmp (values_of w value a) (values_of w value b) ≡ Equal → a ≡ b
+pub same_values : {w : ℕ} {f : List ℕ → Option UleError} {is_value : ℕ → Type 0} {chunk : ℕ → List ℕ} {value : List ℕ → ℕ}
+    (s : IsSpelling is_value w f chunk value) (ty : TyName) (a b : List ℕ) → IsBytes a → IsBytes b → chunks_fault ty w f a ≡ None → chunks_fault ty w f b ≡
+    None → slice_cmp nat_cmp (values_of w value a) (values_of w value b) ≡ Equal → a ≡ b
 same_values {w = w} {chunk = chunk} {value = value} s ty a b p q h k e =
     sym (read_list s ty a p h).joined ∙ ap (flat_map chunk) (exact_bytes (values_of w value a) (values_of w value b) e) ∙ (read_list s ty b q k).joined

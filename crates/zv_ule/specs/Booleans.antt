@@ -1,12 +1,13 @@
 -- Truth values in one byte.
-use Rattle.std.proofs.Common.{◌≡◌, ℕ, zero, suc, List, [], ◌∷◌, Option, Some, None, refl, ap, ◌∙◌, slice_index, Bool, true, false, lit<}
+use Rattle.std.proofs.Common.{◌≡◌, ℕ, zero, suc, List, [], ◌∷◌, Option, Some, None, refl, ap, ◌∙◌}
+use Rattle.std.proofs.Common.{slice_index, Bool, true, false, lit<}
 use Rattle.std.specs.Prelude.{⊤}
 use Rattle.std.specs.Int.{from_bool}
 use Rattle.zv_ule.specs.declared.error.TyName.TheVariants.{Bool as BoolName}
 use Rattle.zv_ule.specs.declared.error.UleError.{UleError}
 use Rattle.zv_ule.specs.declared.error.UleError.TheVariants.{ParseError}
 use Rattle.zv_ule.specs.Fixed.{IsChunk, IsSpelling, IsTwin}
-use Rattle.zv_ule.specs.Spellings.{no_bytes, more_bytes, one_byte}
+use Rattle.zv_ule.specs.laws.Spellings.{no_bytes, more_bytes, one_byte}
 
 -- the error of a byte: 0 and 1 have none
 abbrev pub bit_fault : ℕ → Option UleError
@@ -32,9 +33,16 @@ bit_back zero h = refl
 bit_back (suc zero) h = refl
 bit_back (suc (suc n)) h = cc
 
-bool_writes : (v : Bool) → IsChunk 1 bool_fault (from_bool v ∷ []) × (bool_value (from_bool v ∷ []) ≡ v)
-bool_writes true = (record { each = more_bytes 1 [] (lit< tt) no_bytes; long = refl; good = refl }, refl)
-bool_writes false = (record { each = more_bytes 0 [] (lit< tt) no_bytes; long = refl; good = refl }, refl)
+bool_writes : (v : Bool) → IsChunk 1 bool_fault (from_bool v ∷ []) ×
+    (bool_value (from_bool v ∷ []) ≡ v)
+bool_writes true = (
+  record { each = more_bytes 1 [] (lit< tt) no_bytes; long = refl; good = refl },
+  refl,
+)
+bool_writes false = (
+  record { each = more_bytes 0 [] (lit< tt) no_bytes; long = refl; good = refl },
+  refl,
+)
 
 -- a truth value is stored as 0 or 1
 pub bool_spelling : IsSpelling {V = Bool} (λ _. ⊤) 1 bool_fault (λ v. from_bool v ∷ []) bool_value

@@ -1,15 +1,21 @@
 -- Characters in three bytes.
-use Rattle.std.proofs.Common.{◌≡◌, ℕ, ◌+◌, ◌*◌, ◌<◌, ◌^◌, ◌%◌, ◌/◌, List, [], ◌∷◌, length, Option, Some, None, refl, ap, arith, slice_index, if◌then◌else◌, Bool, true, false, inl, inr}
+use Rattle.std.proofs.Common.{◌≡◌, ℕ, ◌+◌, ◌*◌, ◌<◌, ◌^◌, ◌%◌, ◌/◌, List, [], ◌∷◌, length, Option}
+use Rattle.std.proofs.Common.{Some, None, refl, ap, arith, slice_index, if◌then◌else◌, Bool, true}
+use Rattle.std.proofs.Common.{false, inl, inr}
 use Rattle.std.proofs.Math.Utf8.{scalar, scalar_cases}
 use Rattle.std.proofs.lemmas.Nat.{mod_below}
 use Rattle.std.specs.Char.{IsScalar}
-use Rattle.zv_ule.specs.declared.chars.CharULE.{CharULE}
+use Rattle.zv_ule.specs.declared.fixed.chars.CharULE.{CharULE}
 use Rattle.zv_ule.specs.declared.error.TyName.TheVariants.{Char}
 use Rattle.zv_ule.specs.declared.error.UleError.{UleError}
 use Rattle.zv_ule.specs.declared.error.UleError.TheVariants.{ParseError}
 use Rattle.zv_ule.specs.Bytes.{IsBytes}
 use Rattle.zv_ule.specs.Fixed.{IsSpelling, IsTwin}
-use Rattle.zv_ule.specs.Spellings.{no_bytes, more_bytes}
+use Rattle.zv_ule.specs.laws.Spellings.{no_bytes, more_bytes}
+
+-- the character that is stored
+abbrev pub char_of : CharULE → ℕ
+char_of stored = stored.value
 
 -- the number that three bytes spell, the lowest first
 abbrev pub char_code : List ℕ → ℕ
@@ -24,7 +30,8 @@ abbrev pub char_fault : List ℕ → Option UleError
 char_fault b = if scalar (char_code b) then None else Some (ParseError Char)
 
 three_bytes : (x y z : ℕ) → x < 256 → y < 256 → z < 256 → IsBytes (x ∷ (y ∷ (z ∷ [])))
-three_bytes x y z p q r = more_bytes x (y ∷ (z ∷ [])) p (more_bytes y (z ∷ []) q (more_bytes z [] r no_bytes))
+three_bytes x y z p q r = more_bytes x (y ∷ (z ∷ [])) p
+    (more_bytes y (z ∷ []) q (more_bytes z [] r no_bytes))
 
 code_back : (c : ℕ) → c < 2 ^ 24 → char_code (char_bytes c) ≡ c
 code_back c h = omega arith
@@ -52,10 +59,13 @@ scalar_if true h = refl
 scalar_if false h = cc
 
 -- a character is stored as the low three bytes of its number
-pub char_spelling : IsSpelling {V = CharULE} (λ v. IsScalar v.value) 3 char_fault (λ v. char_bytes v.value) (λ b. record { value = char_code b })
+pub char_spelling : IsSpelling {V = CharULE} (λ v. IsScalar v.value) 3 char_fault
+    (λ v. char_bytes v.value) (λ b. record { value = char_code b })
 char_spelling = record {
   writes = λ v h. record {
-    each = three_bytes (v.value % 256) (v.value / 256 % 256) (v.value / 65536 % 256) (mod_below v.value 256 (omega arith)) (mod_below (v.value / 256) 256 (omega arith)) (mod_below (v.value / 65536) 256 (omega arith));
+    each = three_bytes (v.value % 256) (v.value / 256 % 256) (v.value / 65536 % 256)
+        (mod_below v.value 256 (omega arith)) (mod_below (v.value / 256) 256 (omega arith))
+        (mod_below (v.value / 65536) 256 (omega arith));
     long = refl;
     good = rw (code_back v.value (scalar_small v.value h), h) refl;
   };
@@ -65,5 +75,6 @@ char_spelling = record {
 }
 
 -- and loaded as itself
-pub char_twin : IsTwin {V = ℕ} {U = CharULE} IsScalar (λ u. IsScalar u.value) (λ v. record { value = v }) (λ u. u.value)
+pub char_twin : IsTwin {V = ℕ} {U = CharULE} IsScalar (λ u. IsScalar u.value)
+    (λ v. record { value = v }) (λ u. u.value)
 char_twin = record { stored = λ v h. h; back = λ v h. refl; taken = λ u h. h; again = λ u h. refl }

@@ -1,10 +1,17 @@
 -- A value or none with no tag: none is stored as a pattern that no value has.
-use Rattle.std.specs.Prelude.{◌≡◌, ℕ, List, length, Option, Some, None, option_map, bytes_eq, if◌then◌else◌}
+use Rattle.std.specs.Prelude.{◌≡◌, ℕ, List, length, Option, Some, None, option_map, bytes_eq}
+use Rattle.std.specs.Prelude.{if◌then◌else◌}
 use Rattle.zv_ule.specs.Bytes.{IsBytes}
+use Rattle.zv_ule.specs.declared.fixed.niche.NichedOptionULE.{NichedOptionULE}
 use Rattle.zv_ule.specs.declared.error.UleError.{UleError}
 
+-- the option that is stored
+abbrev pub niched_option_of : {U : Type 0} {n : ℕ} → NichedOptionULE U n → Option U
+niched_option_of stored = stored.value
+
 -- n is the width, and the pattern is bytes of that width and no good chunk
-pub record IsNiche (n width : ℕ) (fault : List ℕ → Option UleError) (pattern : List ℕ) : Type 0 where
+pub record IsNiche (n width : ℕ) (fault : List ℕ → Option UleError) (pattern : List ℕ) :
+    Type 0 where
   pub whole : n ≡ width
   pub each : IsBytes pattern
   pub long : length pattern ≡ width

@@ -1,5 +1,6 @@
 -- Numbers other than 0 in one byte.
-use Rattle.std.proofs.Common.{◌≡◌, ℕ, zero, suc, ◌<◌, ◌^◌, List, [], ◌∷◌, Option, Some, None, refl, ap, sym, ◌∙◌, arith, slice_index, subst}
+use Rattle.std.proofs.Common.{◌≡◌, ℕ, zero, suc, ◌<◌, ◌^◌, List, [], ◌∷◌, Option, Some, None, refl}
+use Rattle.std.proofs.Common.{ap, sym, ◌∙◌, arith, slice_index, subst}
 use Rattle.std.proofs.Math.Bridge.{le_prop}
 use Rattle.std.proofs.Math.Nat.{zero-lt-suc}
 use Rattle.std.specs.Int.{w8, cast_signed, cast_unsigned}
@@ -10,8 +11,8 @@ use Rattle.zv_ule.specs.declared.error.TyName.TheVariants.{NonZeroU8 as NonZeroU
 use Rattle.zv_ule.specs.declared.error.UleError.{UleError}
 use Rattle.zv_ule.specs.declared.error.UleError.TheVariants.{ParseError}
 use Rattle.zv_ule.specs.Fixed.{IsSpelling, IsTwin}
-use Rattle.zv_ule.specs.Spellings.{no_bytes, more_bytes, one_byte, byte_twin}
-use Rattle.zv_ule.specs.Twins.{signed_twin}
+use Rattle.zv_ule.specs.laws.Spellings.{no_bytes, more_bytes, one_byte, byte_twin}
+use Rattle.zv_ule.specs.laws.Twins.{signed_twin}
 
 -- the error of a byte: only 0 has one
 abbrev pub zero_fault : ℕ → Option UleError
@@ -40,13 +41,17 @@ signed_non_zero_of (negsuc n) = record { value = negsuc n; ok = zero-lt-suc n }
 -- a number that is known not to be 0 is itself
 pub of_value : (n : ℕ) → (h : 0 < n) → non_zero_of n ≡ record { value = n; ok = h }
 of_value zero h = absurd (omega (arith, h))
-of_value (suc n) h = ap (λ (p : 0 < suc n). record { value = suc n; ok = p }) (le_prop (zero-lt-suc n) h)
+of_value (suc n) h = ap (λ (p : 0 < suc n). record { value = suc n; ok = p })
+    (le_prop (zero-lt-suc n) h)
 
 -- the same of a signed number
-pub of_signed_value : (z : ℤ) → (h : 0 < unsigned_abs z) → signed_non_zero_of z ≡ record { value = z; ok = h }
+pub of_signed_value : (z : ℤ) → (h : 0 < unsigned_abs z) → signed_non_zero_of z ≡
+    record { value = z; ok = h }
 of_signed_value (pos zero) h = absurd (omega (arith, h))
-of_signed_value (pos (suc n)) h = ap (λ (p : 0 < suc n). record { value = pos (suc n); ok = p }) (le_prop (zero-lt-suc n) h)
-of_signed_value (negsuc n) h = ap (λ (p : 0 < suc n). record { value = negsuc n; ok = p }) (le_prop (zero-lt-suc n) h)
+of_signed_value (pos (suc n)) h = ap (λ (p : 0 < suc n). record { value = pos (suc n); ok = p })
+    (le_prop (zero-lt-suc n) h)
+of_signed_value (negsuc n) h = ap (λ (p : 0 < suc n). record { value = negsuc n; ok = p })
+    (le_prop (zero-lt-suc n) h)
 
 fault_of : (n : ℕ) → 0 < n → zero_fault n ≡ None
 fault_of zero h = absurd (omega (arith, h))
@@ -58,17 +63,28 @@ value_of zero h = cc
 value_of (suc n) h = refl
 
 -- a number other than 0 is stored as its byte
-pub non_zero_spelling : IsSpelling {V = NonZeroU8} (λ v. v.value < 2 ^ 8) 1 non_zero_fault (λ v. v.value ∷ []) non_zero_value
+pub non_zero_spelling : IsSpelling {V = NonZeroU8} (λ v. v.value < 2 ^ 8) 1 non_zero_fault
+    (λ v. v.value ∷ []) non_zero_value
 non_zero_spelling = record {
-  writes = λ v h. record { each = more_bytes v.value [] h no_bytes; long = refl; good = fault_of v.value v.ok };
+  writes = λ v h. record {
+    each = more_bytes v.value [] h no_bytes;
+    long = refl;
+    good = fault_of v.value v.ok;
+  };
   back = λ v h. of_value v.value v.ok;
   reads = λ b h. rw (value_of (slice_index b 0) h.good) (h.each.at 0);
   again = λ b h. ap (λ n. n ∷ []) (value_of (slice_index b 0) h.good) ∙ one_byte b h.long;
 }
 
 -- and loaded as itself
-pub non_zero_twin : IsTwin {V = NonZeroU8} {U = NonZeroU8} (λ v. v.value < 2 ^ 8) (λ v. v.value < 2 ^ 8) (λ v. v) (λ v. v)
-non_zero_twin = record { stored = λ v h. h; back = λ v h. refl; taken = λ v h. h; again = λ v h. refl }
+pub non_zero_twin : IsTwin {V = NonZeroU8} {U = NonZeroU8} (λ v. v.value < 2 ^ 8)
+    (λ v. v.value < 2 ^ 8) (λ v. v) (λ v. v)
+non_zero_twin = record {
+  stored = λ v h. h;
+  back = λ v h. refl;
+  taken = λ v h. h;
+  again = λ v h. refl;
+}
 
 positive : (n : ℕ) (z : ℤ) → (n ≡ 0 → z ≡ pos 0) → 0 < unsigned_abs z → 0 < n
 positive zero z h k = absurd (omega (arith, ap unsigned_abs (h refl), k))
@@ -81,21 +97,31 @@ positive_signed n (negsuc m) h k = zero-lt-suc m
 
 -- the bits of a signed number other than 0 are not 0
 pub stored_positive : (z : ℤ) → FitsSigned w8 z → 0 < unsigned_abs z → 0 < cast_unsigned w8 z
-stored_positive z h k = positive (cast_unsigned w8 z) z (λ e. sym ((signed_twin w8 byte_twin).back z h) ∙ ap (cast_signed w8) e) k
+stored_positive z h k = positive (cast_unsigned w8 z) z
+    (λ e. sym ((signed_twin w8 byte_twin).back z h) ∙ ap (cast_signed w8) e) k
 
 -- and back
 pub loaded_positive : (n : ℕ) → n < 2 ^ 8 → 0 < n → 0 < unsigned_abs (cast_signed w8 n)
-loaded_positive n h k = positive_signed n (cast_signed w8 n) (λ e. sym ((signed_twin w8 byte_twin).again n h) ∙ ap (cast_unsigned w8) e) k
+loaded_positive n h k = positive_signed n (cast_signed w8 n)
+    (λ e. sym ((signed_twin w8 byte_twin).again n h) ∙ ap (cast_unsigned w8) e) k
 
 -- a signed number other than 0 is stored as the unsigned one of its bits
-pub signed_non_zero_twin : IsTwin {V = NonZeroI8} {U = NonZeroU8} (λ v. FitsSigned w8 v.value) (λ u. u.value < 2 ^ 8) (λ v. non_zero_of (cast_unsigned w8 v.value)) (λ u. signed_non_zero_of (cast_signed w8 u.value))
+pub signed_non_zero_twin : IsTwin {V = NonZeroI8} {U = NonZeroU8} (λ v. FitsSigned w8 v.value)
+    (λ u. u.value < 2 ^ 8) (λ v. non_zero_of (cast_unsigned w8 v.value))
+    (λ u. signed_non_zero_of (cast_signed w8 u.value))
 signed_non_zero_twin =
     let t = signed_twin w8 byte_twin in
-    let to = λ (v : NonZeroI8) (h : FitsSigned w8 v.value). of_value (cast_unsigned w8 v.value) (stored_positive v.value h v.ok) in
-    let from = λ (u : NonZeroU8) (h : u.value < 2 ^ 8). of_signed_value (cast_signed w8 u.value) (loaded_positive u.value h u.ok) in
+    let to = λ (v : NonZeroI8) (h : FitsSigned w8 v.value). of_value (cast_unsigned w8 v.value)
+    (stored_positive v.value h v.ok) in
+    let from = λ (u : NonZeroU8) (h : u.value < 2 ^ 8). of_signed_value (cast_signed w8 u.value)
+    (loaded_positive u.value h u.ok) in
     record {
-      stored = λ v h. subst (λ (u : NonZeroU8). u.value < 2 ^ 8) (sym (to v h)) (t.stored v.value h);
-      back = λ v h. ap (λ (u : NonZeroU8). signed_non_zero_of (cast_signed w8 u.value)) (to v h) ∙ ap signed_non_zero_of (t.back v.value h) ∙ of_signed_value v.value v.ok;
-      taken = λ u h. subst (λ (v : NonZeroI8). FitsSigned w8 v.value) (sym (from u h)) (t.taken u.value h);
-      again = λ u h. ap (λ (v : NonZeroI8). non_zero_of (cast_unsigned w8 v.value)) (from u h) ∙ ap non_zero_of (t.again u.value h) ∙ of_value u.value u.ok;
+      stored = λ v h. subst (λ (u : NonZeroU8). u.value < 2 ^ 8) (sym (to v h))
+          (t.stored v.value h);
+      back = λ v h. ap (λ (u : NonZeroU8). signed_non_zero_of (cast_signed w8 u.value)) (to v h) ∙
+          ap signed_non_zero_of (t.back v.value h) ∙ of_signed_value v.value v.ok;
+      taken = λ u h. subst (λ (v : NonZeroI8). FitsSigned w8 v.value) (sym (from u h))
+          (t.taken u.value h);
+      again = λ u h. ap (λ (v : NonZeroI8). non_zero_of (cast_unsigned w8 v.value)) (from u h) ∙
+          ap non_zero_of (t.again u.value h) ∙ of_value u.value u.ok;
     }

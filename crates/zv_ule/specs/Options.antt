@@ -1,9 +1,15 @@
 -- A value or none: a tag byte, then the value or as many zeros.
-use Rattle.std.specs.Prelude.{ℕ, zero, suc, List, ◌∷◌, drop, replicate, slice_index, Option, Some, None, option_map, eqb, if◌then◌else◌}
+use Rattle.std.specs.Prelude.{ℕ, zero, suc, List, ◌∷◌, drop, replicate, slice_index, Option, Some}
+use Rattle.std.specs.Prelude.{None, option_map, eqb, if◌then◌else◌}
 use Rattle.std.specs.List.{list_all}
+use Rattle.zv_ule.specs.declared.fixed.option.OptionULE.{OptionULE}
 use Rattle.zv_ule.specs.declared.error.TyName.TheVariants.{Opt}
 use Rattle.zv_ule.specs.declared.error.UleError.{UleError}
 use Rattle.zv_ule.specs.declared.error.UleError.TheVariants.{ParseError}
+
+-- the option that is stored
+abbrev pub option_of : {U : Type 0} → OptionULE U → Option U
+option_of stored = stored.value
 
 -- the error of the bytes after a tag: zeros after 0, a value after 1, and no other tag
 abbrev pub tagged_fault : (List ℕ → Option UleError) → ℕ → List ℕ → Option UleError

@@ -5,15 +5,29 @@ ghost use Rattle.std.specs.Ordering.{on};
 ghost use Rattle.std.specs.declared.cmp.Ordering.TheVariants.{Equal};
 ghost use Rattle.zv_ule.specs.Bytes.{IsBytes};
 ghost use Rattle.zv_ule.specs.Chunks.{chunks_fault, chunks_of, values_of, IsFirstFault};
-ghost use Rattle.zv_ule.specs.Fixed.{IsChunk, IsListOf};
+ghost use Rattle.zv_ule.specs.Examples.{FaceIsThreeBytes, InnerError, LastIsTaken, MinusFive};
+ghost use Rattle.zv_ule.specs.Examples.{MinusTwo, NicheIsTaken, PastLastIsRefused, RestError};
+ghost use Rattle.zv_ule.specs.Examples.{SixByFour, SurrogateIsRefused, TagError, TurnedPairs};
+ghost use Rattle.zv_ule.specs.Fixed.{is_width, IsChunk, IsListOf};
 ghost use Rattle.zv_ule.specs.Kinds.{EqualIsSame};
+ghost use Rattle.zv_ule.specs.SearchExamples.{FourStepsInFive, IsGapBeforeTwo, IsGapOfTwo};
+ghost use Rattle.zv_ule.specs.SearchExamples.{NoStepInNone, OneStepInNone, ThreeStepsInFive};
 ghost use Rattle.zv_ule.specs.declared.error.UleError.{UleError};
 ghost use Rattle.zv_ule.specs.declared.error.UleError.TheVariants.{InvalidLength};
 
+mod composed_orders;
+mod fixed_orders;
+
 use crate::element::{AsULE, ULE};
 use crate::kind::{ZvKind, ZvOrd};
-use crate::slices::SliceULE;
-use crate::text::StrULE;
+use crate::kinds::slices::SliceULE;
+use crate::kinds::text::StrULE;
+pub use composed_orders::{
+    exact_order_of_five, exact_order_of_four, exact_order_of_niched_options,
+    exact_order_of_options, exact_order_of_six, exact_order_of_slices, exact_order_of_three,
+    exact_order_of_two, exact_orders_of_arrays,
+};
+pub use fixed_orders::{exact_other_orders, exact_signed_orders, exact_unsigned_orders};
 use std::hash::Hash;
 
 /// Lists of values and the byte strings that they are stored as:
@@ -45,6 +59,26 @@ pub fn fixed_lists<T: AsULE>()
         IsFirstFault T.ULE.chunk_fault (chunks_of T.ULE.width bytes) e }
 {}
 
+/// What `fixed_lists` says, of the types that values are stored as.
+pub fn stored_lists<U: ULE>()
+    requires { IsTrue (is_width U.width) }
+    ensures exact { (bytes : List ℕ) → IsBytes bytes →
+        (chunks_fault U.TY U.width U.chunk_fault bytes ≡ None)
+        ↔ ((us : List U) × IsListOf U.is_value U.chunk bytes us) }
+    ensures only { (bytes : List ℕ) (us : List U) → IsListOf U.is_value U.chunk bytes us →
+        values_of U.width U.value bytes ≡ us }
+    ensures chunk { (u : U) → U.is_value u → IsChunk U.width U.chunk_fault (U.chunk u) }
+    ensures back { (u : U) → U.is_value u → U.value (U.chunk u) ≡ u }
+    ensures one_chunk { (u : U) (b : List ℕ) → IsChunk U.width U.chunk_fault b →
+        U.value b ≡ u → b ≡ U.chunk u }
+    ensures uneven { (bytes : List ℕ) → 0 < length bytes % U.width →
+        chunks_fault U.TY U.width U.chunk_fault bytes
+        ≡ Some (InvalidLength U.TY (length bytes)) }
+    ensures first { (bytes : List ℕ) (e : UleError) → length bytes % U.width ≡ 0 →
+        chunks_fault U.TY U.width U.chunk_fault bytes ≡ Some e →
+        IsFirstFault U.chunk_fault (chunks_of U.width bytes) e }
+{}
+
 /// The order of every kind is total.
 pub fn total_order<K: ZvOrd>()
     ensures { IsTotalOrder K.cmp }
@@ -72,3 +106,32 @@ pub fn exact_orders()
     exact_order::<u8>();
     exact_order::<u32>();
 }
+
+/// Elements worked out by hand.
+pub fn elements_by_hand()
+    ensures face { FaceIsThreeBytes }
+    ensures surrogate { SurrogateIsRefused }
+    ensures last { LastIsTaken }
+    ensures past_last { PastLastIsRefused }
+    ensures minus_five { MinusFive }
+    ensures minus_two { MinusTwo }
+    ensures inner { InnerError }
+    ensures tag { TagError }
+    ensures rest { RestError }
+    ensures niche { NicheIsTaken }
+    ensures six_by_four { SixByFour }
+    ensures turned { TurnedPairs }
+{}
+
+/// Searches worked out by hand.
+pub fn searches_by_hand()
+    ensures three { ThreeStepsInFive }
+    ensures not_four { ¬ FourStepsInFive }
+    ensures none { NoStepInNone }
+    ensures not_one { ¬ OneStepInNone }
+    ensures between { IsGapOfTwo 1 }
+    ensures not_before { ¬ IsGapOfTwo 0 }
+    ensures not_after { ¬ IsGapOfTwo 2 }
+    ensures first { IsGapBeforeTwo 0 }
+    ensures not_second { ¬ IsGapBeforeTwo 1 }
+{}

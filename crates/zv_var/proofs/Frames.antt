@@ -26,4 +26,6 @@ parted-append p r =
 -- A framed part is taken, whatever follows it.
 pub first_part_of_framed : (p r : List ℕ) → length p < 256 ^ 8 → first_part (framed p ++ r) ≡ Some (p, r)
 first_part_of_framed p r h =
-    ap first_part (append_assoc (le 8 (length p)) p r) ∙ (first_part-field (le 8 (length p)) (p ++ r) (length-le 8 (length p)) ∙ (ap (λ (n : ℕ). parted n (p ++ r)) (number-le 8 (length p) h) ∙ parted-append p r))
+    ap first_part (append_assoc (le 8 (length p)) p r)
+    ∙ (first_part-field (le 8 (length p)) (p ++ r) (length-le 8 (length p))
+    ∙ (ap (λ (n : ℕ). parted n (p ++ r)) (number-le 8 (length p) h) ∙ parted-append p r))

@@ -11,11 +11,13 @@ use Rattle.zv_var.specs.declared.error.VarZeroVecFormatError.TheVariants.{Metada
 
 -- the texts "w", "ω", "文" and "𑄃"
 abbrev pub four_texts : List (List ℕ)
-four_texts = (119 ∷ []) ∷ (207 ∷ 137 ∷ []) ∷ (230 ∷ 150 ∷ 135 ∷ []) ∷ (240 ∷ 145 ∷ 132 ∷ 131 ∷ []) ∷ []
+four_texts = (119 ∷ []) ∷ (207 ∷ 137 ∷ []) ∷ (230 ∷ 150 ∷ 135 ∷ []) ∷
+    (240 ∷ 145 ∷ 132 ∷ 131 ∷ []) ∷ []
 
 -- their encoding with fields of two bytes: the count, three starts, and the texts
 abbrev pub four_texts_bytes : List ℕ
-four_texts_bytes = 4 ∷ 0 ∷ 1 ∷ 0 ∷ 3 ∷ 0 ∷ 6 ∷ 0 ∷ 119 ∷ 207 ∷ 137 ∷ 230 ∷ 150 ∷ 135 ∷ 240 ∷ 145 ∷ 132 ∷ 131 ∷ []
+four_texts_bytes = 4 ∷ 0 ∷ 1 ∷ 0 ∷ 3 ∷ 0 ∷ 6 ∷ 0 ∷ 119 ∷ 207 ∷ 137 ∷ 230 ∷ 150 ∷ 135 ∷ 240 ∷ 145 ∷
+    132 ∷ 131 ∷ []
 
 -- the texts "bc" and "a"
 abbrev pub two_texts : List (List ℕ)
@@ -95,7 +97,8 @@ FallingStartIsRefused = list_fault 1 any (3 ∷ 2 ∷ 1 ∷ 98 ∷ 99 ∷ 97 ∷
 
 -- a first element of two bytes, where each has one, is named before a second start past the end
 abbrev pub EarlierFaultIsNamed : Type 0
-EarlierFaultIsNamed = list_fault 1 one_byte (3 ∷ 2 ∷ 9 ∷ 98 ∷ 99 ∷ 97 ∷ []) ≡ Some (Values (InvalidLength U8 2))
+EarlierFaultIsNamed = list_fault 1 one_byte (3 ∷ 2 ∷ 9 ∷ 98 ∷ 99 ∷ 97 ∷ []) ≡
+    Some (Values (InvalidLength U8 2))
 
 -- a part of two bytes, in its frame
 abbrev pub PartIsFramed : Type 0

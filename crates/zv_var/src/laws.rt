@@ -1,7 +1,15 @@
 // What the format means: worked examples, and laws. Each call does nothing, and its contract is
 // what it is for.
-ghost use Rattle.zv_var.specs.Laws.{FramedIsTaken, NamesLeast, NoneWrong, OneEncoding, OneList, ReadsBack, SoundExactly};
-ghost use Rattle.zv_var.specs.Examples.{CountOfZeroIsEmpty, CountOfZeroIsSound, CutCountIsRefused, CutLengthIsNoPart, CutPartIsNoPart, CutStartsAreRefused, EarlierFaultIsNamed, FallingStartIsRefused, FourTextsAreEncoded, FourTextsAreRead, FourTextsAreSound, FramedPartIsTaken, LargeCountIsRefused, LargestOfTwoBytes, NoBytesAreSound, NoElementsAreNoBytes, PartIsFramed, StartPastEndIsRefused, TwoTextsInFourByteFields, TwoTextsInOneByteFields, TwoTextsInTwoByteFields};
+ghost use Rattle.zv_var.specs.Laws.{FramedIsTaken, NamesLeast, NoneWrong, OneEncoding, OneList};
+ghost use Rattle.zv_var.specs.Laws.{ReadsBack, SoundExactly};
+ghost use Rattle.zv_var.specs.Examples.{CountOfZeroIsEmpty, CountOfZeroIsSound, CutCountIsRefused};
+ghost use Rattle.zv_var.specs.Examples.{CutLengthIsNoPart, CutPartIsNoPart, CutStartsAreRefused};
+ghost use Rattle.zv_var.specs.Examples.{EarlierFaultIsNamed, FallingStartIsRefused};
+ghost use Rattle.zv_var.specs.Examples.{FourTextsAreEncoded, FourTextsAreRead, FourTextsAreSound};
+ghost use Rattle.zv_var.specs.Examples.{FramedPartIsTaken, LargeCountIsRefused, LargestOfTwoBytes};
+ghost use Rattle.zv_var.specs.Examples.{NoBytesAreSound, NoElementsAreNoBytes, PartIsFramed};
+ghost use Rattle.zv_var.specs.Examples.{StartPastEndIsRefused, TwoTextsInFourByteFields};
+ghost use Rattle.zv_var.specs.Examples.{TwoTextsInOneByteFields, TwoTextsInTwoByteFields};
 
 /// Small lists, and their encodings byte for byte.
 pub fn lists_by_hand()

@@ -1,42 +1,42 @@
 // The test of a list: all elements at one look, or one after another.
 //
-// Throughout, `indices` begins with as many starts as `starts` says, and `things` are the bytes of
+// Throughout, `indices` begins with as many starts as `starts` says, and `body` are the bytes of
 // the elements.
-ghost use Rattle.std.specs.Prelude.{◌≡◌, ℕ, ◌*◌, ◌≤◌, List, [], ◌∷◌, ◌++◌, length, true, None, IsTrue};
+ghost use Rattle.std.specs.Prelude.{◌≡◌, ℕ, ◌*◌, ◌≤◌, List, [], ◌∷◌, ◌++◌, length, true, None};
+ghost use Rattle.std.specs.Prelude.{IsTrue};
 ghost use Rattle.std.specs.Result.{result_err};
 ghost use Rattle.std.specs.List.{AllByRecursion};
 ghost use Rattle.zv_var.specs.Format.{elements_fault, fields};
 ghost use Rattle.zv_var.specs.Order.{in_order};
 
 use crate::error::VarZeroVecFormatError;
-use zv_ule::format::{VarZeroVecFormat, read_start};
-use zv_ule::kind::ZvKind;
+use zv_ule::{VarZeroVecFormat, ZvKind, read_start};
 
 /// Whether the list is known to have no fault, by a look at all elements' bytes at once and at the
 /// starts. `false` claims nothing: then `check_elements` decides.
 pub(crate) fn are_sound<T: ZvKind, F: VarZeroVecFormat>(
     starts: usize,
     indices: &[u8],
-    things: &[u8],
+    body: &[u8],
 ) -> bool
     requires usable { IsTrue T.usable }
     requires room { F.W * starts ≤ length indices.now }
-    ensures { IsTrue result → elements_fault T.fault things.now 0
-        (fields F.W starts indices.now ++ length things.now ∷ []) ≡ None }
+    ensures { IsTrue result → elements_fault T.fault body.now 0
+        (fields F.W starts indices.now ++ length body.now ∷ []) ≡ None }
 {
-    if !are_in_order::<F>(starts, indices, things.len()) {
+    if !are_in_order::<F>(starts, indices, body.len()) {
         return false;
     }
-    if T::is_sound_everywhere(things) {
+    if T::is_sound_everywhere(body) {
         return true;
     }
-    if !T::is_sound_between_boundaries(things)
-        || !T::is_boundary(things, 0)
-        || !T::is_boundary(things, things.len())
+    if !T::is_sound_between_boundaries(body)
+        || !T::is_boundary(body, 0)
+        || !T::is_boundary(body, body.len())
     {
         return false;
     }
-    are_boundaries::<T, F>(starts, indices, things)
+    are_boundaries::<T, F>(starts, indices, body)
 }
 
 /// Whether the starts rise from 0 to at most the end.
@@ -62,18 +62,18 @@ fn are_in_order<F: VarZeroVecFormat>(starts: usize, indices: &[u8], end: usize) 
 fn are_boundaries<T: ZvKind, F: VarZeroVecFormat>(
     starts: usize,
     indices: &[u8],
-    things: &[u8],
+    body: &[u8],
 ) -> bool
     requires usable { IsTrue T.usable }
     requires room { F.W * starts ≤ length indices.now }
-    ensures { IsTrue result → AllByRecursion (λ at. T.boundary things.now at ≡ true)
+    ensures { IsTrue result → AllByRecursion (λ at. T.boundary body.now at ≡ true)
         (fields F.W starts indices.now) }
 {
     let mut good = true;
     let mut rest = indices;
     for _i in 0..starts {
         let (field, after) = rest.split_at(F::W);
-        good &= T::is_boundary(things, read_start::<F>(field));
+        good &= T::is_boundary(body, read_start::<F>(field));
         rest = after;
     }
     good
@@ -84,28 +84,28 @@ fn are_boundaries<T: ZvKind, F: VarZeroVecFormat>(
 pub(crate) fn check_elements<T: ZvKind, F: VarZeroVecFormat>(
     starts: usize,
     indices: &[u8],
-    things: &[u8],
+    body: &[u8],
 ) -> Result<(), VarZeroVecFormatError>
     requires usable { IsTrue T.usable }
     requires room { F.W * starts ≤ length indices.now }
-    ensures { result_err result ≡ elements_fault T.fault things.now 0
-        (fields F.W starts indices.now ++ length things.now ∷ []) }
+    ensures { result_err result ≡ elements_fault T.fault body.now 0
+        (fields F.W starts indices.now ++ length body.now ∷ []) }
 {
     let mut start = 0;
     let mut rest = indices;
     for _i in 0..starts {
         let (field, after) = rest.split_at(F::W);
         let end = read_start::<F>(field);
-        if end < start || things.len() < end {
+        if end < start || body.len() < end {
             return Err(VarZeroVecFormatError::Metadata);
         }
-        if let Err(e) = T::check(&things[start..end]) {
+        if let Err(e) = T::check(&body[start..end]) {
             return Err(VarZeroVecFormatError::Values(e));
         }
         start = end;
         rest = after;
     }
-    if let Err(e) = T::check(&things[start..]) {
+    if let Err(e) = T::check(&body[start..]) {
         return Err(VarZeroVecFormatError::Values(e));
     }
     Ok(())

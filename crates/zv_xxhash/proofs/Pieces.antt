@@ -1,5 +1,6 @@
 -- Bytes in pieces, one after another.
-use Rattle.std.proofs.Common.{◌≡◌, ℕ, zero, suc, ◌+◌, ◌-◌, ◌*◌, ◌/◌, ◌%◌, ◌^◌, ◌<◌, ◌≤◌, nat_lt, nat_le, Bool, true, false, List, ◌++◌, length, take, drop, refl, ap, sym, ◌∙◌, arith, length-append, length-drop, drop-drop}
+use Rattle.std.proofs.Common.{◌≡◌, ℕ, zero, suc, ◌+◌, ◌-◌, ◌*◌, ◌/◌, ◌%◌, ◌^◌, ◌<◌, ◌≤◌, nat_lt, nat_le}
+use Rattle.std.proofs.Common.{Bool, true, false, List, ◌++◌, length, take, drop, refl, ap, sym, ◌∙◌, arith, length-append, length-drop, drop-drop}
 use Rattle.std.proofs.lemmas.Bool.Decides.{nat_tests}
 use Rattle.std.proofs.lemmas.List.{drop-append-le, take-append-le, take-append-drop, append_assoc, nil_from_length, length-take-le, take_all}
 use Rattle.std.proofs.Math.Seq.{drop-append_seam}
@@ -49,7 +50,8 @@ pub all_lanes_more : (lanes m d : List ℕ) → all_lanes lanes (m ++ d) ≡ all
 all_lanes_more lanes m d =
     let n : ℕ = length m / 32 in
     let x : List ℕ = take (32 * n) m in
-    ap (all_lanes lanes) (parted m d) ∙ all_lanes-append n lanes x (left_over m ++ d) (whole_length m) ∙ ap (λ l. all_lanes l (left_over m ++ d)) (sym (lanes_whole lanes m))
+    ap (all_lanes lanes) (parted m d) ∙ all_lanes-append n lanes x (left_over m ++ d) (whole_length m)
+    ∙ ap (λ l. all_lanes l (left_over m ++ d)) (sym (lanes_whole lanes m))
 
 pub left_over_more : (m d : List ℕ) → left_over (m ++ d) ≡ left_over (left_over m ++ d)
 left_over_more m d =
@@ -108,7 +110,9 @@ long_striped : (n k j : ℕ) → j ≡ n % 32 → 32 ≤ j + k → true ≡ nat_
 long_striped n k j is long = grind (arith, nat_tests)
 
 -- few bytes are kept after those that were pending
-pub holds_few : (seed start total : ℕ) (lanes pending next m d : List ℕ) (flag : Bool) → Holds (record { seed = seed; lanes = lanes; pending = pending; total = total; is_striped = flag }) start m → length d < 32 - length pending → next ≡ pending ++ d
+pub holds_few : (seed start total : ℕ) (lanes pending next m d : List ℕ) (flag : Bool)
+    → Holds (record { seed = seed; lanes = lanes; pending = pending; total = total; is_striped = flag }) start m
+    → length d < 32 - length pending → next ≡ pending ++ d
     → Holds (record { seed = seed; lanes = lanes; pending = next; total = (total + length d) % 2 ^ 64; is_striped = flag }) start (m ++ d)
 holds_few seed start total lanes pending next m d flag held few is =
     let len : length pending ≡ length m % 32 = ap length held.kept ∙ left_length m in
@@ -123,7 +127,9 @@ holds_few seed start total lanes pending next m d flag held few is =
     }
 
 -- bytes that complete a stripe
-pub holds_many : (seed start total : ℕ) (lanes pending next after m d : List ℕ) (flag : Bool) → Holds (record { seed = seed; lanes = lanes; pending = pending; total = total; is_striped = flag }) start m → 32 ≤ length pending + length d → after ≡ all_lanes lanes (pending ++ d) → next ≡ left_over (pending ++ d)
+pub holds_many : (seed start total : ℕ) (lanes pending next after m d : List ℕ) (flag : Bool)
+    → Holds (record { seed = seed; lanes = lanes; pending = pending; total = total; is_striped = flag }) start m → 32 ≤ length pending + length d
+    → after ≡ all_lanes lanes (pending ++ d) → next ≡ left_over (pending ++ d)
     → Holds (record { seed = seed; lanes = after; pending = next; total = (total + length d) % 2 ^ 64; is_striped = true }) start (m ++ d)
 holds_many seed start total lanes pending next after m d flag held many lanes_is next_is =
     let len : length pending ≡ length m % 32 = ap length held.kept ∙ left_length m in
@@ -131,12 +137,15 @@ holds_many seed start total lanes pending next after m d flag held many lanes_is
       seed = held.seed;
       total = total_more total (length d) m d held.total refl;
       striped = long_striped (length m) (length d) (length pending) len many ∙ ap (nat_le 32) (sym (length-append m d));
-      lanes = lanes_is ∙ ap (λ l. all_lanes l (pending ++ d)) held.lanes ∙ ap (λ l. all_lanes (all_lanes (first_lanes start) m) (l ++ d)) held.kept ∙ sym (all_lanes_more (first_lanes start) m d);
+      lanes = lanes_is ∙ ap (λ l. all_lanes l (pending ++ d)) held.lanes
+          ∙ ap (λ l. all_lanes (all_lanes (first_lanes start) m) (l ++ d)) held.kept ∙ sym (all_lanes_more (first_lanes start) m d);
       kept = next_is ∙ ap (λ l. left_over (l ++ d)) held.kept ∙ sym (left_over_more m d);
     }
 
 -- the digest of what the hasher holds
-pub digest_is : (h : XxHash64) (start opened hash : ℕ) (m : List ℕ) → Holds h start m → opened ≡ opening start m → hash ≡ (opened + h.total) % 2 ^ 64 → avalanche (with_rest hash h.pending) ≡ xxh64 start m
+pub digest_is : (h : XxHash64) (start opened hash : ℕ) (m : List ℕ)
+    → Holds h start m → opened ≡ opening start m → hash ≡ (opened + h.total) % 2 ^ 64
+    → avalanche (with_rest hash h.pending) ≡ xxh64 start m
 unfolding xxh64
 digest_is h start opened hash m held is sum =
     let same : hash ≡ plus (opening start m) (length m) = sum ∙ wrap_total opened (opening start m) h.total (length m) is held.total in

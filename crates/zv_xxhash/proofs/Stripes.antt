@@ -9,8 +9,10 @@ from_place b k = take_all (length b - k) (drop k b) (omega (arith, length-drop k
 
 -- four lanes, each with its word
 pub four_lanes : (lanes stripe : List ℕ) (v1 v2 v3 v4 x1 x2 x3 x4 : ℕ)
-    → x1 ≡ word stripe → x2 ≡ word (take (length stripe - 8) (drop 8 stripe)) → x3 ≡ word (take (length stripe - 16) (drop 16 stripe)) → x4 ≡ word (take (length stripe - 24) (drop 24 stripe))
-    → v1 ≡ lane_after (slice_index lanes 0) x1 → v2 ≡ lane_after (slice_index lanes 1) x2 → v3 ≡ lane_after (slice_index lanes 2) x3 → v4 ≡ lane_after (slice_index lanes 3) x4
+    → x1 ≡ word stripe → x2 ≡ word (take (length stripe - 8) (drop 8 stripe))
+    → x3 ≡ word (take (length stripe - 16) (drop 16 stripe)) → x4 ≡ word (take (length stripe - 24) (drop 24 stripe))
+    → v1 ≡ lane_after (slice_index lanes 0) x1 → v2 ≡ lane_after (slice_index lanes 1) x2
+    → v3 ≡ lane_after (slice_index lanes 2) x3 → v4 ≡ lane_after (slice_index lanes 3) x4
     → v1 ∷ v2 ∷ v3 ∷ v4 ∷ [] ≡ lanes_after lanes stripe
 four_lanes lanes stripe v1 v2 v3 v4 x1 x2 x3 x4 w1 w2 w3 w4 e1 e2 e3 e4 =
     let y2 : x2 ≡ word (drop 8 stripe) = w2 ∙ ap word (from_place stripe 8) in
@@ -19,7 +21,9 @@ four_lanes lanes stripe v1 v2 v3 v4 x1 x2 x3 x4 w1 w2 w3 w4 e1 e2 e3 e4 =
     rw (e1, e2, e3, e4, w1, y2, y3, y4) refl
 
 -- one stripe more
-pub stripe_more : (n m : ℕ) (lanes b stripe after next : List ℕ) → n ≡ m + 1 → stripe ≡ take 32 b → after ≡ drop 32 b → next ≡ lanes_after lanes stripe → lanes_through m next after ≡ lanes_through n lanes b
+pub stripe_more : (n m : ℕ) (lanes b stripe after next : List ℕ)
+    → n ≡ m + 1 → stripe ≡ take 32 b → after ≡ drop 32 b → next ≡ lanes_after lanes stripe
+    → lanes_through m next after ≡ lanes_through n lanes b
 stripe_more n m lanes b stripe after next more front back is =
     let count : n ≡ suc m = omega (arith, more) in rw (count, is, front, back) refl
 

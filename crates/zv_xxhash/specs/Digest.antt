@@ -1,6 +1,8 @@
 -- XXH64, the 64-bit digest of the xxHash specification (version 0.1.1), on a whole list of bytes.
 -- There is no buffer and no state between writes here. All sums and products are modulo 2 ^ 64.
-use Rattle.std.specs.Prelude.{ℕ, zero, suc, ◌+◌, ◌-◌, ◌*◌, ◌/◌, ◌%◌, ◌^◌, nat_lt, List, [], ◌∷◌, length, take, drop, slice_index, bit_xor, if◌then◌else◌}
+use Rattle.std.specs.Prelude.{ℕ, zero, suc, ◌+◌, ◌-◌, ◌*◌, ◌/◌, ◌%◌, ◌^◌, nat_lt}
+use Rattle.std.specs.Prelude.{List, [], ◌∷◌, length, take, drop, slice_index, bit_xor}
+use Rattle.std.specs.Prelude.{if◌then◌else◌}
 use Rattle.std.specs.Int.{w32, w64, rotate_left, from_le_bytes}
 
 abbrev pub plus : ℕ → ℕ → ℕ
@@ -40,7 +42,9 @@ lane_after lane x = times (rotate_left w64 (plus lane (times x prime2)) 31) prim
 
 -- the lanes before the first stripe
 abbrev pub first_lanes : ℕ → List ℕ
-first_lanes seed = plus (plus seed prime1) prime2 ∷ plus seed prime2 ∷ seed ∷ (seed + (2 ^ 64 - prime1)) % 2 ^ 64 ∷ []
+first_lanes seed =
+    plus (plus seed prime1) prime2 ∷ plus seed prime2 ∷ seed
+    ∷ (seed + (2 ^ 64 - prime1)) % 2 ^ 64 ∷ []
 
 -- the lanes with one stripe more: each takes one of its four words
 abbrev pub lanes_after : List ℕ → List ℕ → List ℕ
@@ -74,20 +78,25 @@ converged lanes =
     let v3 : ℕ = slice_index lanes 2 in
     let v4 : ℕ = slice_index lanes 3 in
     merged (merged (merged (merged
-    (plus (plus (plus (rotate_left w64 v1 1) (rotate_left w64 v2 7)) (rotate_left w64 v3 12)) (rotate_left w64 v4 18))
+    (plus (plus (plus (rotate_left w64 v1 1) (rotate_left w64 v2 7))
+    (rotate_left w64 v3 12)) (rotate_left w64 v4 18))
     v1) v2) v3) v4
 
 -- the hash of the stripes: without any, it begins with the seed alone
 abbrev pub opening : ℕ → List ℕ → ℕ
-opening seed b = if nat_lt (length b) 32 then plus seed prime5 else converged (all_lanes (first_lanes seed) b)
+opening seed b =
+    if nat_lt (length b) 32 then plus seed prime5
+    else converged (all_lanes (first_lanes seed) b)
 
 -- ---- what is left: words, then half a word, then bytes
 
 abbrev pub with_word : ℕ → List ℕ → ℕ
-with_word h b = plus (times (rotate_left w64 (bit_xor h (lane_after 0 (word b))) 27) prime1) prime4
+with_word h b =
+    plus (times (rotate_left w64 (bit_xor h (lane_after 0 (word b))) 27) prime1) prime4
 
 abbrev pub with_half_word : ℕ → List ℕ → ℕ
-with_half_word h b = plus (times (rotate_left w64 (bit_xor h (times (half_word b) prime1)) 23) prime2) prime3
+with_half_word h b =
+    plus (times (rotate_left w64 (bit_xor h (times (half_word b) prime1)) 23) prime2) prime3
 
 abbrev pub with_byte : ℕ → ℕ → ℕ
 with_byte h b = times (rotate_left w64 (bit_xor h (times b prime5)) 11) prime1
@@ -102,7 +111,9 @@ with_bytes h (b ∷ bs) = with_bytes (with_byte h b) bs
 
 -- fewer than eight bytes
 abbrev pub with_end : ℕ → List ℕ → ℕ
-with_end h b = if nat_lt (length b) 4 then with_bytes h b else with_bytes (with_half_word h b) (drop 4 b)
+with_end h b =
+    if nat_lt (length b) 4 then with_bytes h b
+    else with_bytes (with_half_word h b) (drop 4 b)
 
 -- fewer than 32 bytes
 abbrev pub with_rest : ℕ → List ℕ → ℕ

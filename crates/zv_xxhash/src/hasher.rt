@@ -1,7 +1,7 @@
 // The hasher.
 ghost use Rattle.std.specs.Prelude.{◌≡◌, ℕ, ◌+◌, ◌≤◌, List, [], ◌++◌, length};
 ghost use Rattle.zv_xxhash.specs.Digest.{all_lanes, left_over, opening, xxh64};
-ghost use Rattle.zv_xxhash.specs.Rows.{NoBytes, ThreeBytes};
+ghost use Rattle.zv_xxhash.specs.Rows.{NoBytes, ThirtyNineBytes, ThreeBytes, TwelveBytes};
 
 use crate::lanes::{STRIPE, add_stripe, add_stripes, converge, start};
 use crate::pending::Pending;
@@ -38,7 +38,8 @@ impl XxHash64 {
 
     /// Writes more bytes. Whole stripes are hashed where they lie; fewer than 32 bytes are kept.
     pub fn write(&mut self, bytes: &[u8])
-        ensures { (seed : ℕ) (written : List ℕ) → Holds self.old seed written → Holds self.new seed (written ++ bytes.now) }
+        ensures { (seed : ℕ) (written : List ℕ) → Holds self.old seed written →
+            Holds self.new seed (written ++ bytes.now) }
     {
         self.total = self.total.wrapping_add(bytes.len() as u64);
         if bytes.len() < STRIPE - self.pending.len() {
@@ -53,7 +54,8 @@ impl XxHash64 {
 
     /// The digest of all bytes written. More may be written after it.
     pub fn finish(&self) -> u64
-        ensures { (seed : ℕ) (written : List ℕ) → Holds self.now seed written → result ≡ xxh64 seed written }
+        ensures { (seed : ℕ) (written : List ℕ) → Holds self.now seed written →
+            result ≡ xxh64 seed written }
     {
         let hash = self.opening().wrapping_add(self.total);
         finish(add_rest(hash, self.pending.as_slice()))
@@ -61,7 +63,8 @@ impl XxHash64 {
 
     /// The hash of the whole stripes, or of the seed where there is none.
     fn opening(&self) -> u64
-        ensures { (seed : ℕ) (written : List ℕ) → Holds self.now seed written → result ≡ opening seed written }
+        ensures { (seed : ℕ) (written : List ℕ) → Holds self.now seed written →
+            result ≡ opening seed written }
     {
         if self.is_striped {
             converge(self.lanes)
@@ -74,7 +77,8 @@ impl XxHash64 {
 /// The stripe that begins with the pending bytes, if there are any; what follows it is handed back.
 fn complete_stripe<'b>(lanes: &mut [u64; 4], pending: &Pending, bytes: &'b [u8]) -> &'b [u8]
     requires { STRIPE ≤ length pending.now + length bytes.now }
-    ensures lanes { all_lanes lanes.new result.now ≡ all_lanes lanes.old (pending.now ++ bytes.now) }
+    ensures lanes { all_lanes lanes.new result.now ≡
+        all_lanes lanes.old (pending.now ++ bytes.now) }
     ensures left { left_over result.now ≡ left_over (pending.now ++ bytes.now) }
 {
     let used = pending.len();
@@ -91,4 +95,6 @@ fn complete_stripe<'b>(lanes: &mut [u64; 4], pending: &Pending, bytes: &'b [u8])
 pub fn worked_values()
     ensures no_bytes { NoBytes }
     ensures three_bytes { ThreeBytes }
+    ensures twelve_bytes { TwelveBytes }
+    ensures thirty_nine_bytes { ThirtyNineBytes }
 {}

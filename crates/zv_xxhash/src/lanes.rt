@@ -1,6 +1,7 @@
 // Stripes of 32 bytes, over four lanes.
 ghost use Rattle.std.specs.Prelude.{◌≡◌, ◌<◌, ◌^◌, length};
-ghost use Rattle.zv_xxhash.specs.Digest.{all_lanes, converged, first_lanes, lane_after, lanes_after, left_over, merged};
+ghost use Rattle.zv_xxhash.specs.Digest.{all_lanes, converged, first_lanes, lane_after};
+ghost use Rattle.zv_xxhash.specs.Digest.{lanes_after, left_over, merged};
 
 use crate::words::{PRIME_1, PRIME_2, PRIME_4, read_word};
 

@@ -5,8 +5,6 @@ pub mod hasher;
 mod lanes;
 mod pending;
 mod tail;
-#[cfg(test)]
-mod tests;
 mod words;
 
 pub use hasher::XxHash64;

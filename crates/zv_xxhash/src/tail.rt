@@ -1,6 +1,7 @@
 // What the stripes leave: words, half a word, bytes; and the last mixing.
 ghost use Rattle.std.specs.Prelude.{◌≡◌, ◌<◌, ◌≤◌, length};
-ghost use Rattle.zv_xxhash.specs.Digest.{avalanche, with_byte, with_bytes, with_end, with_half_word, with_rest, with_word};
+ghost use Rattle.zv_xxhash.specs.Digest.{avalanche, with_byte, with_bytes, with_end};
+ghost use Rattle.zv_xxhash.specs.Digest.{with_half_word, with_rest, with_word};
 
 use crate::lanes::mix;
 use crate::words::{PRIME_1, PRIME_2, PRIME_3, PRIME_4, PRIME_5, read_half_word, read_word};

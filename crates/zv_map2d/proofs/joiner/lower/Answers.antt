@@ -1,6 +1,9 @@
-use Rattle.std.proofs.Common.{arith}
-use Rattle.zv_map2d.proofs.Raised.{lowered_is}
+use Rattle.std.proofs.Common.{◌-◌, arith}
+use Rattle.zv_map2d.proofs.Splices.{shifted}
 use Rattle.zv_map2d.proofs.joiner.lower.Goals as goal
 
 pub returns : goal.returns
-returns c = lowered_is c.args.ends.now.values c.loop-row.ends.values c.args.from c.loop-row.invariant.size c.loop-row.invariant.low (λ k a b. c.loop-row.invariant.done k a (omega (arith, b, c.loop-row.invariant.size, c.loop-row-test.false, c.len-row-end.ensures)) b)
+returns c =
+    let l = c.loop-row.invariant in
+    shifted (λ e. e - 1) c.args.ends.now.values c.loop-row.ends.values c.args.from l.size l.low (λ k a b. l.done k a
+    (omega (arith, b, l.size, c.loop-row-test.false, c.len-row-end.ensures)) b)

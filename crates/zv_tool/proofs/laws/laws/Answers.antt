@@ -1,10 +1,10 @@
 use Rattle.zv_tool.proofs.Edits.{same_edits, written_back}
-use Rattle.zv_tool.proofs.Left.{spoken_texts, left_stands}
+use Rattle.zv_tool.proofs.Left.{keys_are_texts, left_stands}
 use Rattle.zv_tool.proofs.laws.laws.Goals as goal
 
 pub returns : goal.returns
 returns c = record {
-  spoken = spoken_texts;
+  texts = keys_are_texts;
   left = left_stands;
   same = same_edits;
   again = written_back;

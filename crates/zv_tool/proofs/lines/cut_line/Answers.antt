@@ -1,10 +1,12 @@
-use Rattle.zv_tool.proofs.Cutting.{first_line, last_line}
+use Rattle.std.proofs.Common.{◌≡◌, ◌∷◌, rules}
+use Rattle.std.specs.List.{slice_split}
+use Rattle.memchr.specs.Find.{is_byte}
+use Rattle.zv_tool.proofs.Cutting.{first_line}
 use Rattle.zv_tool.proofs.lines.cut_line.Goals as goal
 
 pub returns-in-Some-clause-cut : goal.returns-in-Some-clause-cut
 returns-in-Some-clause-cut c =
-    let found = c.in-Some.ensures in
-    first_line c.args.text.now c.in-Some.end found.0.before found.0.high found.1
-
-pub returns-in-None-clause-cut : goal.returns-in-None-clause-cut
-returns-in-None-clause-cut c = last_line c.args.text.now c.requires c.in-None.ensures
+    let line = c.split_at_byte.result.0.now in
+    let rest = c.in-Some.rest.now in
+    let split : slice_split (is_byte 10) c.args.text.now ≡ line ∷ slice_split (is_byte 10) rest = search rules in
+    first_line c.args.text.now line rest split

@@ -14,4 +14,5 @@ returns c =
     let e4 : c.push_part-3.new.out.items ≡ c.push_part-2.new.out.items ++ encode_lower (framed p.keys1.now) = search rules in
     let e5 : c.push_part-4.new.out.items ≡ c.push_part-3.new.out.items ++ encode_lower (framed p.values.now) = search rules in
     let e6 : c.extend_from_slice-2.new.self.items ≡ c.push_part-4.new.out.items ++ line (codes "") = search rules in
-    four_parts _ _ _ _ _ _ _ (codes "image x") (line (codes "")) (framed p.keys0.now) (framed p.joiner.now) (framed p.keys1.now) (framed p.values.now) e1 e2 e3 e4 e5 e6
+    four_parts _ _ _ _ _ _ _ (codes "image x") (line (codes "")) (framed p.keys0.now) (framed p.joiner.now) (framed p.keys1.now) (framed p.values.now)
+    e1 e2 e3 e4 e5 e6

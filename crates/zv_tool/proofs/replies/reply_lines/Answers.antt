@@ -11,7 +11,8 @@ loop-command-preserved c =
     let cs = c.as_slice-command-items.result.now in
     let command = c.command-item.result in
     let ran = take l.command-index cs in
-    let more : take (l.command-index + 1) cs ≡ ran ++ command ∷ [] = (take_at_read cs l.command-index command c.loop-command-test.true).1 ∙ ap (λ x. ran ++ x ∷ []) (sym c.command-item.is) in
+    let more : take (l.command-index + 1) cs ≡ ran ++ command ∷ [] =
+    (take_at_read cs l.command-index command c.loop-command-test.true).1 ∙ ap (λ x. ran ++ x ∷ []) (sym c.command-item.is) in
     let line : c.push_reply.new.out.items ≡ l.out.items ++ text (reply l.map.rows command) = search rules in
     let left : c.push_reply.new.map.rows ≡ next l.map.rows command = search rules in
     record {

@@ -1,6 +1,6 @@
 use Rattle.std.proofs.lemmas.Map.Lookups.{exact_bytes}
 use Rattle.zv_ule.specs.declared.error.TyName.TheVariants.{U8}
-use Rattle.zv_ule.specs.Spellings.{byte_spelling}
+use Rattle.zv_ule.specs.laws.Spellings.{byte_spelling}
 use Rattle.zv_ule.proofs.Exact.{same_values}
 use Rattle.zv_ule.proofs.laws.exact_orders.Goals as goal
 

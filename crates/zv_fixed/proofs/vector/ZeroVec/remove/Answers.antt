@@ -13,7 +13,8 @@ invariant_of-self-2 g c =
     let u = g.T.ULE.ULE in (
       c.self.invariant.0,
       fault_removed u.width c.args.index _ _ _ _ c.self.invariant.0 (ap (λ v. v.bytes) c.self.view_is) c.start_of-start.ensures.start u.TY u.chunk_fault _
-          (omega (arith, c.requires, c.all_read.ensures.len)) c.self.invariant.1 (ap (λ n. c.start_of-start.result + n) c.chunk_at-chunk.ensures.whole) c.in_ok-remove.ensures.ok,
+          (omega (arith, c.requires, c.all_read.ensures.len)) c.self.invariant.1
+          (ap (λ n. c.start_of-start.result + n) c.chunk_at-chunk.ensures.whole) c.in_ok-remove.ensures.ok,
     )
 
 pub returns-clause-removed : goal.returns-clause-removed

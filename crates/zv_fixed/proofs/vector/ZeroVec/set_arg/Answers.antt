@@ -10,7 +10,8 @@ set-requires-clause-place g c =
     let u = g.T.ULE.ULE in
     let here = ap (λ v. v.bytes) c.self.view_is in
     let one = one_good u.TY u.width u.chunk_fault _ (sym (g.met.T.AsULE.kind.errors _) ∙ c.arg_len.ensures.spells) in
-    end_in u.width c.args.index _ _ _ c.args.self.now.bytes c.self.invariant.0 here c.start_of-start.ensures.start _ c.requires.place (omega (arith, c.arg_len.ensures.len, one.0))
+    end_in u.width c.args.index _ _ _ c.args.self.now.bytes c.self.invariant.0 here c.start_of-start.ensures.start _ c.requires.place
+    (omega (arith, c.arg_len.ensures.len, one.0))
 
 pub invariant_of-self : goal.invariant_of-self
 invariant_of-self g c =
@@ -29,7 +30,8 @@ returns-clause-ok g c =
     let here = ap (λ v. v.bytes) c.self.view_is in
     let one = one_good u.TY u.width u.chunk_fault _ (sym (g.met.T.AsULE.kind.errors _) ∙ c.set.ensures.spells) in
     on_ok_weaker c.set.result
-    (λ e. chunks_replaced u.width c.args.index _ _ _ _ c.self.invariant.0 here c.start_of-start.ensures.start _ _ c.requires.place one.0 (omega (arith, c.arg_len.ensures.len, one.0)) e)
+    (λ e. chunks_replaced u.width c.args.index _ _ _ _ c.self.invariant.0 here c.start_of-start.ensures.start _ _ c.requires.place one.0
+    (omega (arith, c.arg_len.ensures.len, one.0)) e)
     c.set.ensures.ok
 
 pub returns-clause-values : goal.returns-clause-values

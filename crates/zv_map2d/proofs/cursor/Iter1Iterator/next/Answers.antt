@@ -8,7 +8,8 @@ pub returns-clause-steps : goal.returns-clause-steps
 returns-clause-steps g c =
     let it = c.args.self.now in
     let more : it.next < it.end = omega (arith, it.order, c.if-self.false) in
-    pairs_next (list_of it.keys) (list_of it.values) it.next it.end (element_of c.in-Some-Some.key) (element_of c.in-Some-Some.value) more it.keys_within it.values_within c.in-Some-Some.ensures c.in-Some-Some.ensures'
+    pairs_next (list_of it.keys) (list_of it.values) it.next it.end (element_of c.in-Some-Some.key) (element_of c.in-Some-Some.value) more it.keys_within
+    it.values_within c.in-Some-Some.ensures c.in-Some-Some.ensures'
 
 pub returns-clause-goes : goal.returns-clause-goes
 returns-clause-goes g c =

@@ -1,15 +1,9 @@
-use Rattle.std.proofs.Common.{rules, ◌≡◌, ◌∙◌, ◌/◌, length, Some, ap, sym}
-use Rattle.std.proofs.lemmas.List.{take_at}
-use Rattle.std.specs.Prelude.{IsUtf8}
-use Rattle.zv_tool.specs.Input.{bytes_of_digits}
-use Rattle.zv_tool.proofs.Keys.{a_key}
+use Rattle.std.proofs.Common.{◌≡◌, Some, rules}
+use Rattle.zv_tool.specs.Input.{text_of_digits}
+use Rattle.zv_tool.proofs.Fields.{digits_of_text}
 use Rattle.zv_tool.proofs.command.KeyText.from_hex.Goals as goal
 
-pub returns : goal.returns
-returns c =
-    let out = c.decode_to_slice.new.out in
-    let said : bytes_of_digits c.args.digits.now ≡ Some out = search rules in
-    let utf8 : IsUtf8 out = search rules in
-    let long : length out ≡ length c.args.digits.now / 2 = search rules in
-    let kept = c.in_place-bytes.ensures ∙ take_at out _ _ long in
-    ap Some kept ∙ sym (a_key c.args.digits.now out said utf8)
+pub invariant_of-result : goal.invariant_of-result
+invariant_of-result c =
+    let said : text_of_digits c.args.digits.now ≡ Some c.in-Some.bytes = search rules in
+    digits_of_text c.args.digits.now c.in-Some.bytes said

@@ -2,11 +2,16 @@ use Rattle.std.proofs.Common.{◌≡◌, ℕ, ◌+◌, ◌-◌, ◌/◌, length,
 use Rattle.zv_ule.proofs.ChunkFaults.{good_more, mul_step}
 use Rattle.zv_ule.proofs.element.ULE.are_good_chunks.Goals as goal
 
-pub loop-turn-preserved : goal.loop-turn-preserved
-loop-turn-preserved g c =
-    let n : ℕ = length c.args.bytes.now / c.size-width.result in
-    let more : n - c.loop-turn.turn ≡ n - (c.loop-turn.turn + 1) + 1 = omega arith in
+pub loop-index-preserved : goal.loop-index-preserved
+loop-index-preserved g c =
+    let w = c.size-width.result in
+    let n : ℕ = length c.args.bytes.now / w in
+    let i = c.loop-index.index in
+    let more : n - i ≡ n - (i + 1) + 1 = omega arith in
+    let parts = c.split_at.ensures in
+    let next = good_more w (n - i) (n - (i + 1)) g.Self.ULE.chunk_fault c.loop-index.rest.now c.split_at.result.0.now c.split_at.result.1.now
+    c.loop-index.good c.is_good_chunk-good.result more parts.front parts.back c.is_good_chunk-good.ensures in
     record {
-      left = omega (arith, mul_step c.size-width.result _ _ more);
-      same = good_more c.size-width.result (n - c.loop-turn.turn) (n - (c.loop-turn.turn + 1)) g.Self.ULE.chunk_fault c.loop-turn.rest.now c.split_at.result.0.now c.split_at.result.1.now c.loop-turn.good c.is_good_chunk-good.result more c.split_at.ensures.front c.split_at.ensures.back c.is_good_chunk-good.ensures ∙ c.loop-turn.invariant.same;
+      left = omega (arith, mul_step w _ _ more);
+      same = next ∙ c.loop-index.invariant.same;
     }

@@ -3,8 +3,9 @@ use Rattle.zv_ule.specs.Chunks.{first_fault, chunks}
 use Rattle.zv_ule.proofs.element.ULE.are_good_chunks.Given as goal
 
 -- the whole is good where what was read is and the rest are
-abbrev pub invariant-loop-turn : goal.invariant-loop-turn
-invariant-loop-turn g l = record {
-  left : l.width * (l.turn-end - l.turn) ≤ length l.rest;
-  same : (l.good && is_none (first_fault g.Self.ULE.chunk_fault (chunks l.width (l.turn-end - l.turn) l.rest))) ≡ is_none (first_fault g.Self.ULE.chunk_fault (chunks l.width l.turn-end l.bytes));
+abbrev pub invariant-loop-index : goal.invariant-loop-index
+invariant-loop-index g l = record {
+  left : l.width * (l.index-end - l.index) ≤ length l.rest;
+  same : (l.good && is_none (first_fault g.Self.ULE.chunk_fault (chunks l.width (l.index-end - l.index) l.rest))) ≡ is_none
+      (first_fault g.Self.ULE.chunk_fault (chunks l.width l.index-end l.bytes));
 }

@@ -13,7 +13,8 @@ returns-in_err-check_chunk g c =
     let p = err_from_is_err_and c.from_residual.result c.from_residual.ensures.1 in
     let pos : 0 < c.size-width.result = rw c.size-width.ensures (width_pos _ c.requires.usable) in
     let long : c.size-width.result ≤ length c.loop-rest.rest.now = omega (arith, c.split_at.ensures.back_len) in
-    let bad : Some c.in_err-check_chunk.field-0.0 ≡ g.Self.ULE.chunk_fault (take c.size-width.result c.loop-rest.rest.now) = ap result_err (sym (c.in_err-check_chunk.was)) ∙ c.check_chunk.ensures ∙ ap g.Self.ULE.chunk_fault c.split_at.ensures.front in
+    let bad : Some c.in_err-check_chunk.field-0.0 ≡ g.Self.ULE.chunk_fault (take c.size-width.result c.loop-rest.rest.now) =
+    ap result_err (sym (c.in_err-check_chunk.was)) ∙ c.check_chunk.ensures ∙ ap g.Self.ULE.chunk_fault c.split_at.ensures.front in
     rw (p.1, p.2, ← c.size-width.ensures) (stops _ _ _ _ _ pos long c.loop-rest.invariant.same bad)
 
 pub loop-rest-preserved : goal.loop-rest-preserved
@@ -22,5 +23,7 @@ loop-rest-preserved g c =
     let long : c.size-width.result ≤ length c.loop-rest.rest.now = omega (arith, c.split_at.ensures.back_len) in
     record {
       whole = rw c.split_at.ensures.back (rw length-drop (whole_after _ _ long c.loop-rest.invariant.whole));
-      same = rw c.split_at.ensures.back (goes_on _ _ _ pos long (ap result_err (sym (c.in_ok-check_chunk.was)) ∙ c.check_chunk.ensures ∙ ap g.Self.ULE.chunk_fault c.split_at.ensures.front) ∙ c.loop-rest.invariant.same);
+      same = rw c.split_at.ensures.back
+          (goes_on _ _ _ pos long (ap result_err (sym (c.in_ok-check_chunk.was)) ∙ c.check_chunk.ensures ∙ ap g.Self.ULE.chunk_fault c.split_at.ensures.front) ∙
+          c.loop-rest.invariant.same);
     }

@@ -8,6 +8,7 @@ returns-then-bytes-len c = λ seed written held.
 
 pub returns : goal.returns
 returns c = λ seed written held.
-    holds_many _ seed _ c.args.self.now.lanes c.args.self.now.pending c.replace.new.self c.add_stripes-tail.new.lanes written c.args.bytes.now _ held (omega arith)
+    holds_many _ seed _ c.args.self.now.lanes c.args.self.now.pending c.replace.new.self
+    c.add_stripes-tail.new.lanes written c.args.bytes.now _ held (omega arith)
     (c.add_stripes-tail.ensures.lanes ∙ c.complete_stripe-rest.ensures.lanes)
     (c.replace.ensures ∙ c.add_stripes-tail.ensures.left ∙ c.complete_stripe-rest.ensures.left)

@@ -1,0 +1,4 @@
+//! Callers of the crates with contracts of their own, as a crate over them has.
+#![tactic(auto)]
+
+pub mod regions;

@@ -1,0 +1,213 @@
+// Bytes that are borrowed until the first change, and then owned.
+ghost use Rattle.std.specs.Prelude.{◌≡◌, ◌+◌, ◌-◌, ◌^◌, ◌<◌, ◌≤◌, [], ◌++◌, length};
+ghost use Rattle.std.specs.Prelude.{true, false, None, IsTrue, IfOk, IsOk, OnOk, OnErr};
+ghost use Rattle.std.specs.Prelude.{MatchOption, vec_capacity, vec_len};
+ghost use Rattle.std.specs.List.{remove_range, splice};
+ghost use Rattle.zv_fixed.specs.CowBytes.{bytes_in, owned_in, spare_in, IsUnchanged};
+
+use std::alloc::Global;
+use zv_ule::{NoMemory, ZvArg, ZvKind};
+
+/// Bytes that lie elsewhere, or in memory that is freed with them.
+#[derive(Drop)]
+pub enum CowBytes<'a> {
+    /// Bytes that lie elsewhere.
+    Borrowed(&'a [u8]),
+    /// Bytes of its own.
+    Owned(Vec<u8>),
+}
+
+impl<'a> CowBytes<'a> {
+    /// The bytes.
+    #[inline]
+    pub fn bytes(&self) -> &[u8]
+        ensures { result.now ≡ bytes_in self.now }
+    {
+        match self {
+            CowBytes::Borrowed(bytes) => bytes,
+            CowBytes::Owned(bytes) => bytes.as_slice(),
+        }
+    }
+
+    /// The bytes, for as long as they lie elsewhere, or `None` where they are owned.
+    #[inline]
+    pub fn borrowed(&self) -> Option<&'a [u8]>
+        ensures { MatchOption result (owned_in self.now ≡ true)
+            (λ b. (owned_in self.now ≡ false) × (b.now ≡ bytes_in self.now)) }
+    {
+        match self {
+            CowBytes::Borrowed(bytes) => Some(*bytes),
+            CowBytes::Owned(_) => None,
+        }
+    }
+
+    /// Whether the bytes are owned.
+    #[inline]
+    pub fn is_owned(&self) -> bool
+        ensures { result ≡ owned_in self.now }
+    {
+        match self {
+            CowBytes::Borrowed(_) => false,
+            CowBytes::Owned(_) => true,
+        }
+    }
+
+    /// Takes all bytes away and keeps the memory.
+    pub fn clear(&mut self)
+        ensures bytes { bytes_in self.new ≡ [] }
+        ensures owned { owned_in self.new ≡ owned_in self.old }
+        ensures spare { spare_in self.old ≤ spare_in self.new }
+    {
+        match self {
+            CowBytes::Borrowed(bytes) => *bytes = &[],
+            CowBytes::Owned(bytes) => bytes.clear(),
+        }
+    }
+
+    /// The same bytes, borrowed from the same place or in memory of their own.
+    pub fn clone(&self, alloc: Global) -> Result<Self, NoMemory>
+        ensures bytes { IfOk result (λ h. bytes_in h ≡ bytes_in self.now) }
+        ensures owned { IfOk result (λ h. owned_in h ≡ owned_in self.now) }
+        ensures borrowed { owned_in self.now ≡ false → IsOk result }
+    {
+        match self {
+            CowBytes::Borrowed(bytes) => Ok(CowBytes::Borrowed(*bytes)),
+            CowBytes::Owned(bytes) => Ok(CowBytes::Owned(Vec::from_slice(alloc, bytes)?)),
+        }
+    }
+
+    /// Writes an argument between the bytes before a place and those from it on.
+    pub fn insert<K: ZvKind, Q: ZvArg<K>>(
+        &mut self,
+        alloc: Global,
+        at: usize,
+        value: &Q,
+    ) -> Result<(), NoMemory>
+        requires usable { IsTrue K.usable }
+        requires below { length (Q.bytes value.now) < 2 ^ 64 }
+        requires place { at ≤ length (bytes_in self.old) }
+        ensures ok { OnOk result (bytes_in self.new
+            ≡ splice (bytes_in self.old) at at (Q.bytes value.now)) }
+        ensures owned { OnOk result (owned_in self.new ≡ true) }
+        ensures err { OnErr result (IsUnchanged self.old self.new) }
+        ensures fits { length (Q.bytes value.now) ≤ spare_in self.old → owned_in self.old ≡ true
+            → IsOk result }
+        ensures spare { spare_in self.old ≤ spare_in self.new + length (Q.bytes value.now) }
+        ensures spells { K.fault (Q.bytes value.now) ≡ None }
+    {
+        match self {
+            CowBytes::Borrowed(bytes) => {
+                let (front, back) = bytes.split_at(at);
+                *self = CowBytes::Owned(joined(alloc, front, value, back)?);
+                Ok(())
+            }
+            CowBytes::Owned(bytes) => insert_into(bytes, at, value),
+        }
+    }
+
+    /// Writes an argument over the bytes from one place up to another.
+    pub fn set<K: ZvKind, Q: ZvArg<K>>(
+        &mut self,
+        alloc: Global,
+        start: usize,
+        end: usize,
+        value: &Q,
+    ) -> Result<(), NoMemory>
+        requires usable { IsTrue K.usable }
+        requires below { length (Q.bytes value.now) < 2 ^ 64 }
+        requires whole { end ≡ start + length (Q.bytes value.now) }
+        requires place { end ≤ length (bytes_in self.old) }
+        ensures ok { OnOk result (bytes_in self.new
+            ≡ splice (bytes_in self.old) start end (Q.bytes value.now)) }
+        ensures owned { OnOk result (owned_in self.new ≡ true) }
+        ensures err { OnErr result (IsUnchanged self.old self.new) }
+        ensures fits { owned_in self.old ≡ true → IsOk result }
+        ensures spare { spare_in self.old ≤ spare_in self.new }
+        ensures spells { K.fault (Q.bytes value.now) ≡ None }
+    {
+        match self {
+            CowBytes::Borrowed(bytes) => {
+                *self = CowBytes::Owned(joined(alloc, &bytes[..start], value, &bytes[end..])?);
+            }
+            CowBytes::Owned(bytes) => value.arg_write(&mut bytes[start..end]),
+        }
+        Ok(())
+    }
+
+    /// Takes the bytes from one place up to another away.
+    pub fn remove(&mut self, alloc: Global, start: usize, end: usize) -> Result<(), NoMemory>
+        requires order { start ≤ end }
+        requires place { end ≤ length (bytes_in self.old) }
+        ensures ok { OnOk result (bytes_in self.new
+            ≡ remove_range (bytes_in self.old) start end) }
+        ensures owned { OnOk result (owned_in self.new ≡ true) }
+        ensures err { OnErr result (IsUnchanged self.old self.new) }
+        ensures fits { owned_in self.old ≡ true → IsOk result }
+        ensures spare { spare_in self.old ≤ spare_in self.new }
+    {
+        match self {
+            CowBytes::Borrowed(bytes) => {
+                let mut kept = Vec::with_capacity(alloc, bytes.len() - (end - start))?;
+                kept.extend_from_slice(&bytes[..start])?;
+                kept.extend_from_slice(&bytes[end..])?;
+                *self = CowBytes::Owned(kept);
+            }
+            CowBytes::Owned(bytes) => {
+                bytes.copy_within(end.., start);
+                bytes.truncate(bytes.len() - (end - start));
+            }
+        }
+        Ok(())
+    }
+}
+
+/// New bytes: those in front, what the argument writes, and those behind.
+fn joined<K: ZvKind, Q: ZvArg<K>>(
+    alloc: Global,
+    front: &[u8],
+    value: &Q,
+    back: &[u8],
+) -> Result<Vec<u8>, NoMemory>
+    requires usable { IsTrue K.usable }
+    requires below { length (Q.bytes value.now) < 2 ^ 64 }
+    ensures spells { K.fault (Q.bytes value.now) ≡ None }
+    ensures items { IfOk result (λ v. v.items ≡ front.now ++ (Q.bytes value.now ++ back.now)) }
+{
+    let start = front.len();
+    let end = start.checked_add(value.arg_len()).ok_or(NoMemory)?;
+    let len = end.checked_add(back.len()).ok_or(NoMemory)?;
+    let mut bytes = Vec::with_capacity(alloc, len)?;
+    bytes.extend_from_slice(front)?;
+    bytes.resize(end, 0)?;
+    value.arg_write(&mut bytes[start..end]);
+    bytes.extend_from_slice(back)?;
+    Ok(bytes)
+}
+
+/// Moves the bytes from a place on up and writes an argument into the gap.
+fn insert_into<K: ZvKind, Q: ZvArg<K>>(
+    bytes: &mut Vec<u8>,
+    at: usize,
+    value: &Q,
+) -> Result<(), NoMemory>
+    requires usable { IsTrue K.usable }
+    requires below { length (Q.bytes value.now) < 2 ^ 64 }
+    requires place { at ≤ length bytes.old.items }
+    ensures ok { OnOk result (bytes.new.items ≡ splice bytes.old.items at at (Q.bytes value.now)) }
+    ensures spells { K.fault (Q.bytes value.now) ≡ None }
+    ensures err { OnErr result (bytes.new.items ≡ bytes.old.items) }
+    ensures err_spare { OnErr result (vec_capacity bytes.new - vec_len bytes.new
+        ≡ vec_capacity bytes.old - vec_len bytes.old) }
+    ensures fits { length (Q.bytes value.now) ≤ vec_capacity bytes.old - vec_len bytes.old
+        → IsOk result }
+    ensures spare { vec_capacity bytes.old - vec_len bytes.old
+        ≤ vec_capacity bytes.new - vec_len bytes.new + length (Q.bytes value.now) }
+{
+    let count = value.arg_len();
+    let len = bytes.len();
+    bytes.reserve(count)?;
+    let _ = bytes.resize(len + count, 0);
+    bytes.copy_within(at..len, at + count);
+    value.arg_write(&mut bytes[at..at + count]);
+    Ok(())
+}

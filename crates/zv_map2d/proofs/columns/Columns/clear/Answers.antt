@@ -1,0 +1,35 @@
+use Rattle.std.proofs.Common.{◌∙◌, ap, arith}
+use Rattle.zv_map2d.specs.Views.{Map2d}
+use Rattle.zv_map2d.proofs.Flat.{view_of}
+use Rattle.zv_map2d.proofs.Seen.{columns, none}
+use Rattle.zv_map2d.proofs.columns.Columns.clear.Goals as goal
+
+pub invariant_of-self : goal.invariant_of-self
+invariant_of-self g c =
+    columns c.self.invariant.keys0 c.self.invariant.keys1 c.self.invariant.values (none c.zvl_clear.ensures.list c.remove_all.ensures.values
+    c.zvl_clear-2.ensures.list c.zvl_clear-3.ensures.list)
+
+pub returns-clause-rows : goal.returns-clause-rows
+returns-clause-rows g c = view_of _ _ _ _ _ (none c.zvl_clear.ensures.list c.remove_all.ensures.values c.zvl_clear-2.ensures.list c.zvl_clear-3.ensures.list)
+
+pub returns-clause-room : goal.returns-clause-room
+returns-clause-room g c =
+    let e = c.self.view_is in
+    record {
+      keys0 = record {
+        owned = c.zvl_clear.ensures.owned ∙ ap (λ (v : Map2d). v.keys0.owned) e;
+        spare = omega (arith, c.zvl_clear.ensures.spare, ap (λ (v : Map2d). v.keys0.spare) e);
+      };
+      joiner = record {
+        owned = c.remove_all.ensures.owned ∙ ap (λ (v : Map2d). v.joiner.owned) e;
+        spare = omega (arith, c.remove_all.ensures.spare, ap (λ (v : Map2d). v.joiner.spare) e);
+      };
+      keys1 = record {
+        owned = c.zvl_clear-2.ensures.owned ∙ ap (λ (v : Map2d). v.keys1.owned) e;
+        spare = omega (arith, c.zvl_clear-2.ensures.spare, ap (λ (v : Map2d). v.keys1.spare) e);
+      };
+      values = record {
+        owned = c.zvl_clear-3.ensures.owned ∙ ap (λ (v : Map2d). v.values.owned) e;
+        spare = omega (arith, c.zvl_clear-3.ensures.spare, ap (λ (v : Map2d). v.values.spare) e);
+      };
+    }

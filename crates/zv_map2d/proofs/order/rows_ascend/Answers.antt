@@ -1,8 +1,0 @@
-use Rattle.std.proofs.Common.{length}
-use Rattle.zv_fixed.specs.Iters.{left_of}
-use Rattle.zv_map2d.proofs.Ascents.{end_within}
-use Rattle.zv_map2d.proofs.order.rows_ascend.Goals as goal
-
-pub zvl_is_ascending_between-requires-clause-within : goal.zvl_is_ascending_between-requires-clause-within
-zvl_is_ascending_between-requires-clause-within g c =
-    end_within c.loop-end.start c.in-Some.end (length (g.C.ZeroVecLike.list c.args.keys.now)) (left_of c.loop-end.end-iterator) (left_of c.next.new.self) c.in-Some.ensures.steps c.loop-end.invariant.climb c.loop-end.invariant.within

@@ -1,0 +1,297 @@
+// The four vectors of a map, seen as its rows.
+ghost use Rattle.std.specs.Prelude.{◌≡◌, ℕ, suc, ◌+◌, ◌^◌, ◌<◌, ◌≤◌, [], length, option_map};
+ghost use Rattle.std.specs.Prelude.{slice_get};
+ghost use Rattle.std.specs.List.{flat_map};
+ghost use Rattle.zv_ule.specs.Bytes.{le};
+ghost use Rattle.std.specs.Result.{MatchResult};
+ghost use Rattle.zv_ule.specs.Search.{IsGap, compared};
+ghost use Rattle.zv_ule.specs.Views.{element_of};
+ghost use Rattle.zv_map.specs.Maps.{IsAt, keys_of, values_of};
+ghost use Rattle.zv_map2d.specs.Iters.{left_of};
+ghost use Rattle.zv_map2d.specs.Keys.{nth};
+ghost use Rattle.zv_map2d.specs.Rows.{IsWell, before, ends, find, firsts, row_at, seconds};
+ghost use Rattle.zv_map2d.specs.Rows.{values};
+ghost use Rattle.zv_map2d.specs.Views.{KeepsRoom, ReadsAs, bytes_of, no_bytes, parts_of};
+ghost use Rattle.zv_map2d.specs.Views.{written_parts};
+
+use crate::cursor::Iter1;
+use crate::order::number_at;
+use crate::parts::Parts;
+use std::marker::{Model, PhantomData};
+use zv_fixed::ZeroVec;
+use zv_map::{ZeroVecSearch, ZvContainer};
+use zv_ule::{VarRef, ZvKind, ZvOrd, ZvOrdArg};
+
+/// The four vectors of a map: the first keys, for each row where it ends, and all second keys and
+/// values, row after row.
+pub struct Columns<
+    'a,
+    K0: ZvOrd,
+    K1: ZvOrd,
+    V: ZvKind,
+    C0: ZvContainer<K0>,
+    C1: ZvContainer<K1>,
+    D: ZvContainer<V>,
+> {
+    pub(crate) keys0: C0,
+    pub(crate) joiner: ZeroVec<'a, u32>,
+    pub(crate) keys1: C1,
+    pub(crate) values: D,
+    pub(crate) kinds: PhantomData<(K0, K1, V)>,
+}
+
+impl<
+    'a,
+    K0: ZvOrd,
+    K1: ZvOrd,
+    V: ZvKind,
+    C0: ZvContainer<K0>,
+    C1: ZvContainer<K1>,
+    D: ZvContainer<V>,
+> Model for Columns<'a, K0, K1, V, C0, C1, D> {
+    ghost use Rattle.zv_map2d.specs.Rows.{rows_from};
+    ghost use Rattle.zv_map2d.specs.Views.{AreColumns, Map2d};
+
+    ghost Value = { Map2d };
+
+    ghost view = { λ m. record {
+      rows = rows_from 0 (C0.list m.keys0) m.joiner.values (C1.list m.keys1) (D.list m.values);
+      keys0 = record {
+        bytes = C0.bytes m.keys0;
+        spare = C0.spare m.keys0;
+        owned = C0.owned m.keys0;
+        ready = C0.ready m.keys0;
+      };
+      joiner = record {
+        bytes = m.joiner.bytes;
+        spare = m.joiner.spare;
+        owned = m.joiner.owned;
+        ready = m.joiner.owned;
+      };
+      keys1 = record {
+        bytes = C1.bytes m.keys1;
+        spare = C1.spare m.keys1;
+        owned = C1.owned m.keys1;
+        ready = C1.ready m.keys1;
+      };
+      values = record {
+        bytes = D.bytes m.values;
+        spare = D.spare m.values;
+        owned = D.owned m.values;
+        ready = D.ready m.values;
+      };
+    } };
+
+    ghost invariant = { λ m. AreColumns K0.usable K1.usable V.usable
+        (C0.list m.keys0) m.joiner.values (C1.list m.keys1) (D.list m.values) };
+}
+
+impl<
+    'a,
+    K0: ZvOrd,
+    K1: ZvOrd,
+    V: ZvKind,
+    C0: ZvContainer<K0> + Drop,
+    C1: ZvContainer<K1> + Drop,
+    D: ZvContainer<V> + Drop,
+> Drop for Columns<'a, K0, K1, V, C0, C1, D> {
+    fn drop(self) {
+        let Columns {
+            keys0: _,
+            joiner: _,
+            keys1: _,
+            values: _,
+            kinds: _,
+        } = self;
+    }
+}
+
+impl<
+    'a,
+    K0: ZvOrd,
+    K1: ZvOrd,
+    V: ZvKind,
+    C0: ZvContainer<K0>,
+    C1: ZvContainer<K1>,
+    D: ZvContainer<V>,
+> Columns<'a, K0, K1, V, C0, C1, D> {
+    /// How many rows there are.
+    #[inline]
+    pub(crate) fn rows(&self) -> usize
+        ensures { result ≡ length self.now.rows }
+    {
+        self.keys0.zvl_len()
+    }
+
+    /// How many pairs there are.
+    #[inline]
+    pub(crate) fn len(&self) -> usize
+        ensures { result ≡ length (seconds self.now.rows) }
+    {
+        self.keys1.zvl_len()
+    }
+
+    /// Where the row's pairs end among all pairs.
+    pub(crate) fn row_end(&self, row: usize) -> usize
+        requires { row < length self.now.rows }
+        ensures { result ≡ before self.now.rows (suc row) }
+    {
+        number_at(self.joiner.as_slice(), row) as usize
+    }
+
+    /// Where the row's pairs start among all pairs; after the last row, where all pairs end.
+    pub(crate) fn row_start(&self, row: usize) -> usize
+        requires { row ≤ length self.now.rows }
+        ensures { result ≡ before self.now.rows row }
+    {
+        match row.checked_sub(1) {
+            Some(last) => self.row_end(last),
+            None => 0,
+        }
+    }
+
+    /// How many pairs the row has.
+    pub(crate) fn row_len(&self, row: usize) -> usize
+        requires { row < length self.now.rows }
+        ensures { result ≡ length (row_at self.now.rows row) }
+    {
+        self.row_end(row) - self.row_start(row)
+    }
+
+    /// The place among all pairs of a pair of the row, or of the row's end.
+    pub(crate) fn pair_start(&self, row: usize, pair: usize) -> usize
+        requires row { row < length self.now.rows }
+        requires pair { pair ≤ length (row_at self.now.rows row) }
+        ensures { result ≡ before self.now.rows row + pair }
+    {
+        // No place lies after all pairs.
+        let _pairs = self.len();
+        self.row_start(row) + pair
+    }
+
+    /// The place of the first key's row, or where it would go.
+    pub(crate) fn row_place<Q: ZvOrdArg<K0>>(&self, key: &Q) -> Result<usize, usize>
+        requires well { IsWell K0.cmp K1.cmp self.now.rows }
+        requires key { length (Q.bytes key.now) < 2 ^ 64 }
+        ensures { MatchResult result
+            (IsAt (compared K0.cmp (firsts self.now.rows) (Q.bytes key.now)))
+            (IsGap (compared K0.cmp (firsts self.now.rows) (Q.bytes key.now))) }
+    {
+        self.keys0.zvl_binary_search(key)
+    }
+
+    /// The place in the row of the pair with the second key, or where it would go.
+    pub(crate) fn pair_place<Q: ZvOrdArg<K1>>(&self, row: usize, key: &Q) -> Result<usize, usize>
+        requires well { IsWell K0.cmp K1.cmp self.now.rows }
+        requires row { row < length self.now.rows }
+        requires key { length (Q.bytes key.now) < 2 ^ 64 }
+        ensures { MatchResult result
+            (IsAt (compared K1.cmp (keys_of (row_at self.now.rows row)) (Q.bytes key.now)))
+            (IsGap (compared K1.cmp (keys_of (row_at self.now.rows row)) (Q.bytes key.now))) }
+    {
+        let start = self.row_start(row);
+        let end = self.row_end(row);
+        match self.keys1.zvl_binary_search_in_range(key, start..end) {
+            Some(place) => place,
+            None => unreachable!(),
+        }
+    }
+
+    /// The first key of the row.
+    pub(crate) fn first_key(&self, row: usize) -> VarRef<'_, K0>
+        requires { row < length self.now.rows }
+        ensures { element_of result ≡ nth (firsts self.now.rows) row }
+    {
+        match self.keys0.zvl_get(row) {
+            Some(key) => key,
+            None => unreachable!(),
+        }
+    }
+
+    /// The value of a pair of the row.
+    pub(crate) fn value_at(&self, row: usize, pair: usize) -> Option<VarRef<'_, V>>
+        requires row { row < length self.now.rows }
+        requires pair { pair < length (row_at self.now.rows row) }
+        ensures { option_map element_of result
+            ≡ slice_get (values_of (row_at self.now.rows row)) pair }
+    {
+        self.values.zvl_get(self.pair_start(row, pair))
+    }
+
+    /// The value of the pair of keys, if there is one.
+    pub(crate) fn get_2d<Q0: ZvOrdArg<K0>, Q1: ZvOrdArg<K1>>(
+        &self,
+        key0: &Q0,
+        key1: &Q1,
+    ) -> Option<VarRef<'_, V>>
+        requires well { IsWell K0.cmp K1.cmp self.now.rows }
+        requires key0 { length (Q0.bytes key0.now) < 2 ^ 64 }
+        requires key1 { length (Q1.bytes key1.now) < 2 ^ 64 }
+        ensures { option_map element_of result
+            ≡ find K0.cmp K1.cmp self.now.rows (Q0.bytes key0.now) (Q1.bytes key1.now) }
+    {
+        let Ok(row) = self.row_place(key0) else {
+            return None;
+        };
+        let Ok(pair) = self.pair_place(row, key1) else {
+            return None;
+        };
+        self.value_at(row, pair)
+    }
+
+    /// The pairs of the row, in order.
+    pub(crate) fn pairs(&self, row: usize) -> Iter1<'_, K1, V>
+        requires { row < length self.now.rows }
+        ensures { left_of result ≡ row_at self.now.rows row }
+    {
+        Iter1 {
+            keys: self.keys1.zvl_as_borrowed(),
+            values: self.values.zvl_as_borrowed(),
+            next: self.row_start(row),
+            end: self.row_end(row),
+        }
+    }
+
+    /// The bytes of the four vectors.
+    pub(crate) fn parts(&self) -> Parts<'_>
+        ensures bytes { bytes_of result ≡ parts_of self.now }
+        ensures keys0 { ReadsAs C0.parse_fault C0.parse_list
+            result.keys0.now (firsts self.now.rows) }
+        ensures joiner { result.joiner.now ≡ flat_map (le 4) (ends self.now.rows) }
+        ensures keys1 { ReadsAs C1.parse_fault C1.parse_list
+            result.keys1.now (seconds self.now.rows) }
+        ensures values { ReadsAs D.parse_fault D.parse_list
+            result.values.now (values self.now.rows) }
+    {
+        Parts {
+            keys0: self.keys0.zvl_bytes(),
+            joiner: self.joiner.as_slice().as_bytes(),
+            keys1: self.keys1.zvl_bytes(),
+            values: self.values.zvl_bytes(),
+        }
+    }
+
+    /// The bytes that the four lists are written as.
+    pub(crate) fn canon_parts(&self) -> Parts<'_>
+        ensures { bytes_of result ≡ written_parts C0.spelling C1.spelling D.spelling self.now.rows }
+    {
+        Parts {
+            keys0: self.keys0.zvl_spelling(),
+            joiner: self.joiner.as_slice().as_bytes(),
+            keys1: self.keys1.zvl_spelling(),
+            values: self.values.zvl_spelling(),
+        }
+    }
+
+    /// Takes all pairs out, and keeps what memory the vectors have.
+    pub(crate) fn clear(&mut self)
+        ensures rows { self.new.rows ≡ [] }
+        ensures parts { parts_of self.new ≡ no_bytes }
+        ensures room { KeepsRoom self.old self.new }
+    {
+        self.keys0.zvl_clear();
+        self.joiner.remove_all();
+        self.keys1.zvl_clear();
+        self.values.zvl_clear();
+    }
+}

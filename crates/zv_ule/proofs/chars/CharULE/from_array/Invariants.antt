@@ -1,9 +1,0 @@
-use Rattle.std.proofs.Common.{◌≡◌, length, map, take}
-use Rattle.zv_ule.proofs.chars.CharULE.from_array.Given as goal
-
--- what is filled is that of what was gone over
-abbrev pub invariant-loop-index : goal.invariant-loop-index
-invariant-loop-index g l = record {
-  long : length l.stored ≡ length l.arr;
-  filled : take l.index l.stored ≡ map (λ v. record { value = v }) (take l.index l.arr);
-}

@@ -1,0 +1,14 @@
+use Rattle.std.proofs.Common.{◌≡◌, length, None}
+use Rattle.std.specs.Cmp.Lexicographic.{slice_cmp}
+use Rattle.zv_ule.specs.Chunks.{chunks_fault}
+use Rattle.zv_ule.specs.Chunks.{values_of}
+use Rattle.zv_ule.proofs.kinds.slice_order.compare_values.Given as goal
+
+abbrev pub invariant-loop-first : goal.invariant-loop-first
+invariant-loop-first g l = record {
+  left_good : chunks_fault g.U.ULE.TY g.U.ULE.width g.U.ULE.chunk_fault l.left ≡ None;
+  same : slice_cmp g.U.Ord.cmp (values_of g.U.ULE.width g.U.ULE.value l.left) l.right ≡ slice_cmp g.U.Ord.cmp (values_of g.U.ULE.width g.U.ULE.value l.a) l.b;
+}
+
+abbrev pub decreases-loop-first : goal.decreases-loop-first
+decreases-loop-first g l = length l.left

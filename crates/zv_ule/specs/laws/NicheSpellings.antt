@@ -1,0 +1,86 @@
+-- The laws of options without a tag, from those of their values.
+use Rattle.std.proofs.Common.{◌≡◌, ℕ, List, [], ◌∷◌, Option, Some, None, refl, ap, sym, ◌∙◌, Bool}
+use Rattle.std.proofs.Common.{true, false, if◌then◌else◌, arith, lit<}
+use Rattle.std.proofs.lemmas.Slice.Eq.{bytes_eq-Decides}
+use Rattle.std.specs.Prelude.{IfSome, bytes_eq}
+use Rattle.zv_ule.specs.declared.error.UleError.{UleError}
+use Rattle.zv_ule.specs.declared.error.TyName.TheVariants.{NonZeroU8}
+use Rattle.zv_ule.specs.declared.error.UleError.TheVariants.{ParseError}
+use Rattle.zv_ule.specs.Fixed.{IsChunk, IsSpelling}
+use Rattle.zv_ule.specs.NonZero.{non_zero_fault}
+use Rattle.zv_ule.specs.laws.Spellings.{no_bytes, more_bytes}
+use Rattle.zv_ule.specs.Niches.{IsNiche, niche_fault, niche_chunk, niche_value}
+
+pub same_is : (a b : List ℕ) → a ≡ b → bytes_eq a b ≡ true
+same_is a b e = grind (arith, bytes_eq-Decides)
+
+pub is_same : (a b : List ℕ) → bytes_eq a b ≡ true → a ≡ b
+is_same a b e = grind (arith, bytes_eq-Decides)
+
+pub either : (t : Bool) (o : Option UleError) → o ≡ None → (if t then None else o) ≡ None
+either true o h = refl
+either false o h = h
+
+pub fault_else : (t : Bool) (o : Option UleError) → t ≡ false → (if t then None else o) ≡ None →
+    o ≡ None
+fault_else true o e h = cc
+fault_else false o e h = h
+
+pub not_pattern : {n w : ℕ} {f : List ℕ → Option UleError} {pattern : List ℕ}
+    (niche : IsNiche n w f pattern) (b : List ℕ) (t : Bool) → bytes_eq b pattern ≡ t → f b ≡ None →
+    t ≡ false
+not_pattern {f = f} {pattern = pattern} niche b true e h =
+    let k : f b ≡ Some niche.bad.0 = ap f (is_same b pattern e) ∙ niche.bad.1 in
+    let no : Some niche.bad.0 ≡ None = sym k ∙ h in
+    cc
+not_pattern niche b false e h = refl
+
+module _ {U : Type 0} {n : ℕ} {pattern : List ℕ} {is_u : U → Type 0} {w : ℕ}
+    {f : List ℕ → Option UleError} {c : U → List ℕ} {v : List ℕ → U}
+    (niche : IsNiche n w f pattern) (s : IsSpelling is_u w f c v) where
+  pub niche_writes : (o : Option U) → IfSome o is_u →
+      IsChunk w (niche_fault pattern f) (niche_chunk pattern c o)
+      × (niche_value pattern v (niche_chunk pattern c o) ≡ o)
+  niche_writes None h =
+      let same = same_is pattern pattern refl in
+      (record { each = niche.each; long = niche.long; good = rw same refl }, rw same refl)
+  niche_writes (Some u) h =
+      let p = s.writes u h in
+      let no = not_pattern niche (c u) (bytes_eq (c u) pattern) refl p.good in
+      let good = either (bytes_eq (c u) pattern) (f (c u)) p.good in
+      (record { each = p.each; long = p.long; good = good }, rw no (ap Some (s.back u h)))
+
+  pub niche_reads : (b : List ℕ) (t : Bool) → bytes_eq b pattern ≡ t →
+      IsChunk w (niche_fault pattern f) b →
+      IfSome (niche_value pattern v b) is_u × (niche_chunk pattern c (niche_value pattern v b) ≡ b)
+  niche_reads b true e h = rw e (tt, sym (is_same b pattern e))
+  niche_reads b false e h =
+      let k : IsChunk w f b = record {
+        each = h.each;
+        long = h.long;
+        good = fault_else (bytes_eq b pattern) (f b) e h.good;
+      } in
+      rw e (s.reads b k, s.again b k)
+
+  -- what holds an option, and no more, is stored as the option
+  pub niche_spelling : {V : Type 0} (make : Option U → V) (of : V → Option U) →
+      ((o : Option U) → of (make o) ≡ o) → ((x : V) → make (of x) ≡ x) →
+      IsSpelling {V = V} (λ x. IfSome (of x) is_u) w (niche_fault pattern f)
+      (λ x. niche_chunk pattern c (of x)) (λ b. make (niche_value pattern v b))
+  niche_spelling make of there here = record {
+    writes = λ x h. (niche_writes (of x) h).0;
+    back = λ x h. ap make (niche_writes (of x) h).1 ∙ here x;
+    reads = λ b h.
+        rw (there (niche_value pattern v b)) ((niche_reads b (bytes_eq b pattern) refl h).0);
+    again = λ b h.
+        rw (there (niche_value pattern v b)) ((niche_reads b (bytes_eq b pattern) refl h).1);
+  }
+
+-- no number other than 0 is stored as 0
+pub zero_is_niche : IsNiche 1 1 non_zero_fault (0 ∷ [])
+zero_is_niche = record {
+  whole = refl;
+  each = more_bytes 0 [] (lit< tt) no_bytes;
+  long = refl;
+  bad = (ParseError NonZeroU8, refl);
+}

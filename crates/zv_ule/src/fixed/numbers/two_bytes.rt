@@ -1,0 +1,216 @@
+// Numbers of two bytes.
+ghost use Rattle.std.proofs.Common.{lit<};
+ghost use Rattle.std.specs.Cmp.{int_cmp_total, nat_cmp_total, on_total};
+ghost use Rattle.std.specs.Int.{cast_signed, cast_unsigned, from_le_bytes, to_le_bytes, w16};
+ghost use Rattle.std.specs.Ordering.{int_cmp, nat_cmp, on};
+ghost use Rattle.std.specs.Prelude.{FitsSigned, List, None, Option, length, map, refl, true, ℕ};
+ghost use Rattle.std.specs.Prelude.{◌<◌, ◌^◌, ◌≡◌, ◌≤◌};
+ghost use Rattle.zv_ule.specs.Kinds.{one_fault};
+ghost use Rattle.zv_ule.specs.laws.Twins.{signed_twin, u16_twin};
+ghost use Rattle.zv_ule.specs.declared.error.TyName.{TyName};
+ghost use Rattle.zv_ule.specs.declared.error.TyName.TheVariants.{RawBytes2};
+
+use crate::element::{AsULE, ULE, check_one};
+use crate::error::{TyName, UleError};
+use crate::fixed::raw_bytes::{RawBytesULE, RawWidth};
+use crate::kind::{ZvKind, ZvOrd, compare_stored, compare_with};
+use crate::kinds::argument::ZvOrdArg;
+use crate::steps::Steps;
+use std::cmp::Ordering;
+use std::sync::ledger::Ledger;
+
+impl RawWidth<2> for RawBytesULE<2> {
+    const NAME: TyName = TyName::RawBytes2;
+
+    ghost NAME = { RawBytes2 };
+
+    ghost positive = { lit< tt };
+
+    ghost narrow = { lit< tt };
+}
+
+impl RawBytesULE<2> {
+    /// The number, as an unsigned one.
+    #[inline]
+    pub fn as_unsigned_int(&self) -> u16
+        ensures { result ≡ from_le_bytes w16 self.now.0 }
+    {
+        u16::from_le_bytes(self.0)
+    }
+
+    /// The number, as a signed one in two's complement.
+    #[inline]
+    pub fn as_signed_int(&self) -> i16
+        ensures { result ≡ cast_signed w16 (from_le_bytes w16 self.now.0) }
+    {
+        self.as_unsigned_int().cast_signed()
+    }
+
+    /// The bytes of an unsigned number, as `from_unsigned`.
+    #[inline]
+    pub fn from_aligned(value: u16) -> Self
+        ensures { result.0 ≡ to_le_bytes w16 value }
+    {
+        RawBytesULE(value.to_le_bytes())
+    }
+
+    /// The bytes of an unsigned number.
+    #[inline]
+    pub fn from_unsigned(v: u16) -> Self
+        ensures { result.0 ≡ to_le_bytes w16 v }
+    {
+        RawBytesULE(v.to_le_bytes())
+    }
+
+    /// The bytes of a signed number, in two's complement.
+    #[inline]
+    pub fn from_signed(v: i16) -> Self
+        ensures { result.0 ≡ to_le_bytes w16 (cast_unsigned w16 v) }
+    {
+        RawBytesULE(v.cast_unsigned().to_le_bytes())
+    }
+
+    /// The bytes of each number of an array.
+    #[inline]
+    pub fn from_array<const L: usize>(arr: [u16; L]) -> [RawBytesULE<2>; L]
+        ensures { result ≡ map (λ v. record { 0 = to_le_bytes w16 v }) arr.entry }
+    {
+        arr.to_unaligned()
+    }
+}
+
+impl From<u16> for RawBytesULE<2> {
+    ghost from_gives = { λ v r. r.0 ≡ to_le_bytes w16 v };
+
+    #[inline]
+    fn from(value: u16) -> Self {
+        RawBytesULE::<2>::from_unsigned(value)
+    }
+}
+
+impl From<i16> for RawBytesULE<2> {
+    ghost from_gives = { λ v r. r.0 ≡ to_le_bytes w16 (cast_unsigned w16 v) };
+
+    #[inline]
+    fn from(value: i16) -> Self {
+        RawBytesULE::<2>::from_signed(value)
+    }
+}
+
+impl ZvKind for u16 {
+    const TY: TyName = TyName::RawBytes2;
+
+    ghost TY = { RawBytes2 };
+
+    ghost usable = { true };
+
+    ghost fault = { one_fault RawBytes2 2 (λ _. None) };
+
+    #[inline]
+    fn check(bytes: &[u8]) -> Result<(), UleError> {
+        check_one::<RawBytesULE<2>>(bytes)
+    }
+}
+
+impl AsULE for u16 {
+    type ULE = RawBytesULE<2>;
+
+    ghost is_value = { λ v. v < 2 ^ 16 };
+
+    ghost stored = { λ v. record { 0 = to_le_bytes w16 v } };
+
+    ghost loaded = { λ u. from_le_bytes w16 u.0 };
+
+    #[inline]
+    fn to_unaligned(self) -> RawBytesULE<2> {
+        RawBytesULE(self.to_le_bytes())
+    }
+
+    #[inline]
+    fn from_unaligned(unaligned: RawBytesULE<2>) -> u16 {
+        u16::from_le_bytes(unaligned.0)
+    }
+
+    ghost kind = { record { widths = refl; errors = λ _. refl } };
+
+    ghost name = { refl };
+
+    ghost twin = { u16_twin };
+}
+
+impl ZvOrd for u16 {
+    ghost cmp = { on (λ b. from_le_bytes w16 b) nat_cmp };
+
+    #[inline]
+    fn compare<L: Ledger>(a: &[u8], b: &[u8], steps: &mut Steps<L>) -> Ordering {
+        compare_stored::<u16, L>(a, b, steps)
+    }
+
+    ghost total = { on_total (λ b. from_le_bytes w16 b) nat_cmp_total };
+}
+
+impl ZvOrdArg<u16> for u16 {
+    #[inline]
+    fn arg_compare<L: Ledger>(&self, element: &[u8], steps: &mut Steps<L>) -> Ordering {
+        compare_with::<u16, L>(element, self, steps)
+    }
+}
+
+impl ZvKind for i16 {
+    const TY: TyName = TyName::RawBytes2;
+
+    ghost TY = { RawBytes2 };
+
+    ghost usable = { true };
+
+    ghost fault = { one_fault RawBytes2 2 (λ _. None) };
+
+    #[inline]
+    fn check(bytes: &[u8]) -> Result<(), UleError> {
+        check_one::<RawBytesULE<2>>(bytes)
+    }
+}
+
+impl AsULE for i16 {
+    type ULE = RawBytesULE<2>;
+
+    ghost is_value = { λ v. FitsSigned w16 v };
+
+    ghost stored = { λ v. record { 0 = to_le_bytes w16 (cast_unsigned w16 v) } };
+
+    ghost loaded = { λ u. cast_signed w16 (from_le_bytes w16 u.0) };
+
+    #[inline]
+    fn to_unaligned(self) -> RawBytesULE<2> {
+        RawBytesULE(self.cast_unsigned().to_le_bytes())
+    }
+
+    #[inline]
+    fn from_unaligned(unaligned: RawBytesULE<2>) -> i16 {
+        u16::from_le_bytes(unaligned.0).cast_signed()
+    }
+
+    ghost kind = { record { widths = refl; errors = λ _. refl } };
+
+    ghost name = { refl };
+
+    ghost twin = { signed_twin w16 u16_twin };
+}
+
+impl ZvOrd for i16 {
+    ghost cmp = { on (λ b. cast_signed w16 (from_le_bytes w16 b)) int_cmp };
+
+    #[inline]
+    fn compare<L: Ledger>(a: &[u8], b: &[u8], steps: &mut Steps<L>) -> Ordering {
+        compare_stored::<i16, L>(a, b, steps)
+    }
+
+    ghost total = { on_total (λ b. cast_signed w16 (from_le_bytes w16 b)) int_cmp_total };
+}
+
+impl ZvOrdArg<i16> for i16 {
+    #[inline]
+    fn arg_compare<L: Ledger>(&self, element: &[u8], steps: &mut Steps<L>) -> Ordering {
+        compare_with::<i16, L>(element, self, steps)
+    }
+}

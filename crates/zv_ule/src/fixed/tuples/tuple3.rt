@@ -1,0 +1,175 @@
+// Tuples of three values of fixed width.
+ghost use Rattle.std.specs.Prelude.{◌≡◌, ℕ, ◌+◌, ◌^◌, ◌<◌, ◌++◌, List, take, drop, length, refl};
+ghost use Rattle.std.specs.Prelude.{Option, None, IsTrue};
+ghost use Rattle.std.specs.Cmp.{on_total, then_total};
+ghost use Rattle.std.specs.Ordering.{on};
+ghost use Rattle.zv_ule.specs.Fixed.{is_width};
+ghost use Rattle.zv_ule.specs.Kinds.{one_fault};
+ghost use Rattle.zv_ule.specs.Pairs.{pair_fault, read_three};
+ghost use Rattle.zv_ule.specs.laws.PairSpellings.{pair_spelling, pair_twin, both_spelling};
+ghost use Rattle.zv_ule.specs.laws.PairSpellings.{both_twin};
+ghost use Rattle.zv_ule.specs.declared.error.TyName.TheVariants.{Tuple3};
+
+use crate::element::{AsULE, ULE, check_one};
+use crate::error::{TyName, UleError};
+use crate::fixed::tuples::tuple2::Tuple2ULE;
+use crate::kind::{ZvKind, ZvOrd, compare_stored, compare_with};
+use crate::kinds::argument::ZvOrdArg;
+use crate::steps::Steps;
+use std::cmp::Ordering;
+use std::sync::ledger::Ledger;
+
+/// Three stored values, one after another with nothing between: the first, and then the others as a
+/// `Tuple2ULE`. The error of bytes that are none is the first bad part's.
+#[derive(Clone, Copy, PartialEq, Eq, PartialOrd, Ord)]
+pub struct Tuple3ULE<A, B, C>(pub A, pub B, pub C);
+
+impl<A: ULE, B: ULE, C: ULE> ULE for Tuple3ULE<A, B, C> {
+    const TY: TyName = TyName::Tuple3;
+
+    ghost TY = { Tuple3 };
+
+    ghost width = { A.width + (B.width + C.width) };
+
+    ghost chunk_fault = { pair_fault A.width A.chunk_fault
+        (pair_fault B.width B.chunk_fault C.chunk_fault) };
+
+    ghost is_value = { λ v. A.is_value v.0 × (B.is_value v.1 × C.is_value v.2) };
+
+    ghost chunk = { λ v. A.chunk v.0 ++ (B.chunk v.1 ++ C.chunk v.2) };
+
+    ghost value = { λ b. record {
+      0 = A.value (take A.width b);
+      1 = B.value (take B.width (drop A.width b));
+      2 = C.value (drop B.width (drop A.width b));
+    } };
+
+    #[inline]
+    fn known(self) {
+        self.0.known();
+        Tuple2ULE(self.1, self.2).known();
+    }
+
+    #[inline]
+    fn size() -> usize {
+        A::size() + Tuple2ULE::<B, C>::size()
+    }
+
+    #[inline]
+    fn check_chunk(bytes: &[u8]) -> Result<(), UleError> {
+        let (first, others) = bytes.split_at(A::size());
+        A::check_chunk(first)?;
+        Tuple2ULE::<B, C>::check_chunk(others)
+    }
+
+    #[inline]
+    fn is_plain() -> bool {
+        A::is_plain() && Tuple2ULE::<B, C>::is_plain()
+    }
+
+    #[inline]
+    fn is_good_chunk(bytes: &[u8]) -> bool {
+        let (first, others) = bytes.split_at(A::size());
+        A::is_good_chunk(first) & Tuple2ULE::<B, C>::is_good_chunk(others)
+    }
+
+    #[inline]
+    fn read_chunk(bytes: &[u8]) -> Self {
+        let (first, others) = bytes.split_at(A::size());
+        let Tuple2ULE(second, third) = Tuple2ULE::<B, C>::read_chunk(others);
+        Tuple3ULE(A::read_chunk(first), second, third)
+    }
+
+    #[inline]
+    fn write_chunk(self, out: &mut [u8]) {
+        let (first, others) = out.split_at_mut(A::size());
+        self.0.write_chunk(first);
+        Tuple2ULE(self.1, self.2).write_chunk(others);
+    }
+
+    ghost spelling = { pair_spelling {B = B × C} (λ a p. record { 0 = a; 1 = p.0; 2 = p.1 })
+        (λ v. v.0)
+        (λ v. (v.1, v.2))
+        (record { front = λ a p. refl; back = λ a p. refl; whole = λ v. refl }) A.spelling
+        (both_spelling B.spelling C.spelling) };
+}
+
+impl<A: AsULE, B: AsULE, C: AsULE> ZvKind for (A, B, C) {
+    const TY: TyName = TyName::Tuple3;
+
+    ghost TY = { Tuple3 };
+
+    ghost usable = { is_width (A.ULE.width + (B.ULE.width + C.ULE.width)) };
+
+    ghost fault = { one_fault Tuple3 (A.ULE.width + (B.ULE.width + C.ULE.width))
+        (pair_fault A.ULE.width A.ULE.chunk_fault
+        (pair_fault B.ULE.width B.ULE.chunk_fault C.ULE.chunk_fault)) };
+
+    #[inline]
+    fn check(bytes: &[u8]) -> Result<(), UleError> {
+        check_one::<Tuple3ULE<A::ULE, B::ULE, C::ULE>>(bytes)
+    }
+}
+
+impl<A: AsULE, B: AsULE, C: AsULE> AsULE for (A, B, C) {
+    type ULE = Tuple3ULE<A::ULE, B::ULE, C::ULE>;
+
+    ghost is_value = { λ v. A.is_value v.0 × (B.is_value v.1 × C.is_value v.2) };
+
+    ghost stored = { λ v. record { 0 = A.stored v.0; 1 = B.stored v.1; 2 = C.stored v.2 } };
+
+    ghost loaded = { λ u. (A.loaded u.0, B.loaded u.1, C.loaded u.2) };
+
+    #[inline]
+    fn to_unaligned(self) -> Tuple3ULE<A::ULE, B::ULE, C::ULE> {
+        Tuple3ULE(
+            self.0.to_unaligned(),
+            self.1.to_unaligned(),
+            self.2.to_unaligned(),
+        )
+    }
+
+    #[inline]
+    fn from_unaligned(unaligned: Tuple3ULE<A::ULE, B::ULE, C::ULE>) -> Self {
+        (
+            A::from_unaligned(unaligned.0),
+            B::from_unaligned(unaligned.1),
+            C::from_unaligned(unaligned.2),
+        )
+    }
+
+    ghost kind = { record { widths = refl; errors = λ _. refl } };
+
+    ghost name = { refl };
+
+    ghost twin = { pair_twin {B = B × C} (λ a p. (a, p.0, p.1)) (λ v. v.0) (λ v. (v.1, v.2))
+        (record { front = λ a p. refl; back = λ a p. refl; whole = λ v. refl })
+        {D = B.ULE × C.ULE} (λ a p. record { 0 = a; 1 = p.0; 2 = p.1 }) (λ v. v.0) (λ v. (v.1, v.2))
+        (record { front = λ a p. refl; back = λ a p. refl; whole = λ v. refl }) A.twin
+        (both_twin B.twin C.twin) };
+}
+
+impl<A: AsULE + Ord, B: AsULE + Ord, C: AsULE + Ord> ZvOrd for (A, B, C) {
+    ghost cmp = { on (read_three A.ULE.width B.ULE.width
+        (λ b. A.loaded (A.ULE.value b)) (λ b. B.loaded (B.ULE.value b))
+        (λ b. C.loaded (C.ULE.value b)))
+        ⟦<(A, B, C) as Ord>⟧.cmp };
+
+    #[inline]
+    fn compare<L: Ledger>(a: &[u8], b: &[u8], steps: &mut Steps<L>) -> Ordering {
+        compare_stored::<(A, B, C), L>(a, b, steps)
+    }
+
+    ghost total = { on_total (read_three A.ULE.width B.ULE.width
+        (λ b. A.loaded (A.ULE.value b)) (λ b. B.loaded (B.ULE.value b))
+        (λ b. C.loaded (C.ULE.value b)))
+        (then_total (then_total (on_total (λ p. p.0) A.total) (on_total (λ p. p.1) B.total))
+        (on_total (λ p. p.2) C.total)) };
+}
+
+impl<A: AsULE + Ord, B: AsULE + Ord, C: AsULE + Ord> ZvOrdArg<(A, B, C)> for (A, B, C) {
+    #[inline]
+    fn arg_compare<L: Ledger>(&self, element: &[u8], steps: &mut Steps<L>) -> Ordering {
+        compare_with::<(A, B, C), L>(element, self, steps)
+    }
+}
