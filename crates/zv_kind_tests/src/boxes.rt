@@ -27,8 +27,20 @@ fn is_written_as<K: VarULE, S: EncodeAsVarULE<K>>(
 // Whether a copy of the box has its bytes, and a box of what the copy views.
 fn is_copied<K: VarULE>(alloc: Global, written: &VarBox<K>) -> Result<bool, NoMemory> {
     let copied = written.clone(alloc)?;
-    let boxed = copied.as_ref().to_boxed(alloc)?;
-    Ok(*copied.as_bytes() == *written.as_bytes() && *boxed.into_bytes() == *written.as_bytes())
+    if *copied.as_bytes() != *written.as_bytes() {
+        return Ok(false);
+    }
+    is_boxed(alloc, copied.as_ref(), written.as_bytes())
+}
+
+// Whether a box of what is viewed has these bytes.
+fn is_boxed<K: VarULE>(
+    alloc: Global,
+    viewed: VarRef<'_, K>,
+    bytes: &[u8],
+) -> Result<bool, NoMemory> {
+    let boxed = viewed.to_boxed(alloc)?;
+    Ok(*boxed.into_bytes() == *bytes)
 }
 
 #[test]

@@ -3,12 +3,14 @@ ghost use Rattle.std.specs.Prelude.{IsTrue, ◌^◌, ◌<◌, length};
 
 use std::alloc::Global;
 use std::num::{NonZeroI8, NonZeroU8};
+use std::process::Abort;
 use std::test::Fail;
 use zv_map::{KvSlice, MutableZeroVecLike, ZeroMapKV, ZeroVecLike, ZeroVecSearch, ZvContainer};
-use zv_owned::VarZeroVecOwned;
+use zv_owned::{VarZeroVec32, VarZeroVecOwned};
 use zv_ule::{
     AsULE, CharULE, Index16, Index32, NichedOption, RawBytesULE, SliceAsULE, SliceULE, StrULE,
-    TyName, ULE, UleError, VarBox, VarRef, ZvKind, ZvOrd, ZvOrdArg, encode_varule_to_box, store,
+    TyName, ULE, UleError, VarBox, VarRef, ZvArg, ZvKind, ZvOrd, ZvOrdArg, encode_varule_to_box,
+    store,
 };
 use zv_var::VarZeroSliceULE;
 
@@ -263,9 +265,8 @@ fn numbers_become_raw_bytes(rt: HostRuntime) {
 
 type Of<'a, K> = <K as ZeroMapKV<'a>>::Container;
 
-// Whether the container of a kind takes two values, and is searched for the second and for one that
-// is missing.
-fn are_kept_in_order<'a, K: ZeroMapKV<'a> + ZvOrd, Q: ZvOrdArg<K>>(
+// Whether a container of a kind takes two values, and is searched for both.
+fn are_kept_in_order<'a, K: ZvOrd, C: MutableZeroVecLike<'a, K> + Drop, Q: ZvOrdArg<K>>(
     alloc: Global,
     low: &Q,
     high: &Q,
@@ -275,7 +276,7 @@ fn are_kept_in_order<'a, K: ZeroMapKV<'a> + ZvOrd, Q: ZvOrdArg<K>>(
     requires low { length (Q.bytes low.now) < 2 ^ 64 }
     requires high { length (Q.bytes high.now) < 2 ^ 64 }
 {
-    let mut list = <K::Container as MutableZeroVecLike<'a, K>>::zvl_new();
+    let mut list = C::zvl_new();
     list.zvl_push(alloc, low).is_ok()
         && list.zvl_push(alloc, high).is_ok()
         && *list.zvl_bytes() == *bytes
@@ -302,7 +303,14 @@ fn is_missing<'a, K: ZeroMapKV<'a> + ZvOrd, Q: ZvOrdArg<K>>(
 fn pairs_are_kept(rt: HostRuntime) {
     let bytes = b"\xff\0\x62\0\0\0\x01\x61\0\0";
     let (low, high) = ((255, 'b'), (256, 'a'));
-    assert!(rt; are_kept_in_order::<(u16, char), (u16, char)>(rt.alloc(), &low, &high, bytes));
+    assert!(rt;
+        are_kept_in_order::<(u16, char), Of<'_, (u16, char)>, (u16, char)>(
+            rt.alloc(),
+            &low,
+            &high,
+            bytes
+        )
+    );
     assert!(rt; is_missing::<(u16, char), (u16, char)>(bytes, &(255, 'c'), 1));
 }
 
@@ -310,7 +318,14 @@ fn pairs_are_kept(rt: HostRuntime) {
 fn options_are_kept(rt: HostRuntime) {
     let bytes = [0, 0, 1, 7];
     let (low, high) = (None, Some(7));
-    assert!(rt; are_kept_in_order::<Option<u8>, Option<u8>>(rt.alloc(), &low, &high, &bytes));
+    assert!(rt;
+        are_kept_in_order::<Option<u8>, Of<'_, Option<u8>>, Option<u8>>(
+            rt.alloc(),
+            &low,
+            &high,
+            &bytes
+        )
+    );
     assert!(rt; is_missing::<Option<u8>, Option<u8>>(&bytes, &Some(0), 1));
 }
 
@@ -389,16 +404,28 @@ fn tuples_have_containers(rt: HostRuntime) {
     assert_eq!(rt; kept, [true; 5]);
 }
 
+// The container takes the text that an argument stands for.
+fn takes<'a, C: MutableZeroVecLike<'a, StrULE>, Q: ZvArg<StrULE>>(
+    rt: &impl Abort,
+    alloc: Global,
+    list: &mut C,
+    text: &Q,
+)
+    requires { length (Q.bytes text.now) < 2 ^ 64 }
+{
+    assert_eq!(rt; list.zvl_push(alloc, text), Ok(()));
+}
+
 #[test]
 fn arguments_for_texts_are_written(rt: HostRuntime) -> Result<(), Fail> {
     let alloc = rt.alloc();
     let text = String::from_str(alloc, "b")?;
     let written: VarBox<StrULE> = encode_varule_to_box(alloc, &"d")?;
     let mut list = <Of<'_, StrULE> as MutableZeroVecLike<'_, StrULE>>::zvl_new();
-    assert_eq!(rt; list.zvl_push(alloc, &"a"), Ok(()));
-    assert_eq!(rt; list.zvl_push(alloc, &text), Ok(()));
-    assert_eq!(rt; list.zvl_push(alloc, &VarRef::of_str("c")), Ok(()));
-    assert_eq!(rt; list.zvl_push(alloc, &written), Ok(()));
+    takes(&rt, alloc, &mut list, &"a");
+    takes(&rt, alloc, &mut list, &text);
+    takes(&rt, alloc, &mut list, &VarRef::of_str("c"));
+    takes(&rt, alloc, &mut list, &written);
     assert_eq!(rt;
         list.zvl_bytes(),
         b"\x04\0\x01\0\x02\0\x03\0abcd".as_slice()
@@ -413,7 +440,10 @@ fn a_list_is_an_element(rt: HostRuntime) {
     };
     let list = VarZeroSliceULE::as_varzeroslice(element);
     assert_eq!(rt; list.len(), 2);
-    assert_eq!(rt; list.get(1).map(|text| text.as_str()), Some("b"));
+    let Some(text) = list.get(1) else {
+        panic!(rt; "there are two texts");
+    };
+    assert_eq!(rt; text.as_str(), "b");
     let error = UleError::parse(TyName::VarZeroSlice);
     assert_eq!(rt;
         VarZeroSliceULE::<StrULE, Index16>::check(b"\x02\0\x03\0ab"),
@@ -492,4 +522,12 @@ fn fields_of_four_bytes(rt: HostRuntime) {
     list.push(&"a").expect(&rt, "memory");
     list.push(&"b").expect(&rt, "memory");
     assert_eq!(rt; list.as_bytes(), b"\x02\0\0\0\x01\0\0\0ab".as_slice());
+}
+
+#[test]
+fn a_container_with_fields_of_four_bytes(rt: HostRuntime) {
+    let bytes = b"\x02\0\0\0\x01\0\0\0ab";
+    assert!(rt;
+        are_kept_in_order::<StrULE, VarZeroVec32<'_, StrULE>, &str>(rt.alloc(), &"a", &"b", bytes)
+    );
 }

@@ -66,29 +66,37 @@ const VALUES: [(u64, usize, u64); 60] = [
     (2864434397, 100, 0x388BFCE7FEFF0E72),
 ];
 
-// The first 100 bytes of the pattern: 11, and 37 more each time, modulo 256.
-fn pattern() -> [u8; 100] {
-    let mut bytes = [0; 100];
+// The pattern: 11, and 37 more each time, modulo 256.
+fn write_pattern(bytes: &mut [u8]) {
     let mut next: u8 = 11;
-    for byte in bytes.iter_mut() {
+    for byte in bytes {
         *byte = next;
         next = next.wrapping_add(37);
     }
-    bytes
+}
+
+// Writes bytes in pieces.
+fn write_pieces(hasher: &mut XxHash64, bytes: &[u8], piece: usize) {
+    let mut rest = bytes;
+    for _ in 0..bytes.len() / piece.max(1) {
+        let (part, after) = rest.split_at(piece.min(rest.len()));
+        hasher.write(part);
+        rest = after;
+    }
+    hasher.write(rest);
 }
 
 // The digest of bytes that are written in pieces.
 fn digest(seed: u64, bytes: &[u8], piece: usize) -> u64 {
     let mut hasher = XxHash64::with_seed(seed);
-    for part in bytes.chunks(piece.max(1)) {
-        hasher.write(part);
-    }
+    write_pieces(&mut hasher, bytes, piece);
     hasher.finish()
 }
 
 #[test]
 fn digests_agree_however_cut(rt: HostRuntime) {
-    let bytes = pattern();
+    let mut bytes = [0; 100];
+    write_pattern(&mut bytes);
     for (seed, len, want) in VALUES {
         for piece in [1, 5, 31, 32, 33, 100] {
             assert_eq!(rt;

@@ -1,8 +1,8 @@
 -- Keys that ascend: how a key that is sought compares with them.
-use Rattle.std.proofs.Common.{◌≡◌, ℕ, zero, suc, ◌+◌, ◌<◌, ◌≤◌, true, List, [], ◌∷◌, length, get_or, refl, sym, ◌∙◌, ap, inl, inr, arith, add-one}
+use Rattle.std.proofs.Common.{◌≡◌, ℕ, zero, suc, ◌+◌, ◌<◌, ◌≤◌, ◌⊎◌, true, List, [], ◌∷◌, length, get_or, refl, sym, ◌∙◌, ap, inl, inr, arith, add-one}
 use Rattle.std.proofs.Math.Nat.{eq-or-lt_of_le}
 use Rattle.std.proofs.lemmas.Bool.{and_parts}
-use Rattle.std.proofs.lemmas.List.{length-map}
+use Rattle.std.proofs.lemmas.List.{get_or-map, length-map}
 use Rattle.std.proofs.lemmas.Map.Keys.{Less-from_sorted, sorted_from_all_adjacent}
 use Rattle.std.specs.Cmp.{IsTotalOrder, alike_right}
 use Rattle.std.specs.List.Sorted.{IsStrictlySortedBy}
@@ -28,11 +28,10 @@ neighbours order x [] e k h = absurd (omega arith)
 neighbours order x (y ∷ ys) e zero h = less_of (order x y) (and_parts (is_lt (order x y)) (below_next order y ys) e).0
 neighbours order x (y ∷ ys) e (suc k) h = neighbours order y ys (and_parts (is_lt (order x y)) (below_next order y ys) e).1 k (omega arith)
 
-compared_at : (order : Bytes → Bytes → Ordering) (key : Bytes) (xs : List Bytes) (i : ℕ) → i < length xs →
+-- how the element at a place compares
+pub compared_at : (order : Bytes → Bytes → Ordering) (key : Bytes) (xs : List Bytes) (i : ℕ) → i < length xs →
     answer_at (compared order xs key) i ≡ order (nth xs i) key
-compared_at order key [] i h = absurd (omega arith)
-compared_at order key (x ∷ xs) zero h = refl
-compared_at order key (x ∷ xs) (suc i) h = compared_at order key xs i (omega arith)
+compared_at order key xs i h = get_or-map (λ x. order x key) xs i [] Equal h
 
 module _ {order : Bytes → Bytes → Ordering} (total : IsTotalOrder order) where
   pub sorted_from_ascends : (xs : List Bytes) → ascends order xs ≡ true → IsStrictlySortedBy order xs
@@ -42,26 +41,18 @@ module _ {order : Bytes → Bytes → Ordering} (total : IsTotalOrder order) whe
   -- what is below y compares with the key no higher than y
   index_by : (key x y : Bytes) (r : Ordering) → order x y ≡ Less → order y key ≡ r → ordering_index (order x key) ≤ ordering_index r
   index_by key x y Less e h = let t = total.trans x y key e h in omega (arith, ap ordering_index t)
-  index_by key x y Equal e h =
-      let t : order x key ≡ Less = sym (alike_right total y key x h) ∙ e in
-      omega (arith, ap ordering_index t)
+  index_by key x y Equal e h = let t : order x key ≡ Less = sym (alike_right total y key x h) ∙ e in omega (arith, ap ordering_index t)
   index_by key x y Greater e h = index_top (order x key)
 
-  rises_by : (key : Bytes) (xs : List Bytes) → IsStrictlySortedBy order xs → (i j : ℕ) → i ≤ j → j < length xs →
-      ordering_index (order (nth xs i) key) ≤ ordering_index (order (nth xs j) key)
-  rises_by key xs up i j a b = elim (eq-or-lt_of_le a) [
-    | inl e ↦ omega (arith, ap (λ n. ordering_index (order (nth xs n) key)) e)
-    | inr l ↦ index_by key (nth xs i) (nth xs j) (order (nth xs j) key) (Less-from_sorted order xs i j [] up l b) refl
-  ]
-
   -- in a list that ascends, what a key compares with rises
+  pub sorted_rises : (key : Bytes) (xs : List Bytes) → IsStrictlySortedBy order xs → Rises (compared order xs key)
+  sorted_rises key xs up i j a b =
+      let inside : j < length xs = omega (arith, length-map xs (λ x. order x key), b) in
+      let by : (i ≡ j) ⊎ (i < j) → ordering_index (order (nth xs i) key) ≤ ordering_index (order (nth xs j) key) = elim [
+        | inl e ↦ omega (arith, ap (λ n. ordering_index (order (nth xs n) key)) e)
+        | inr l ↦ index_by key (nth xs i) (nth xs j) (order (nth xs j) key) (Less-from_sorted order xs i j [] up l inside) refl
+      ] in
+      rw (compared_at order key xs i (omega (arith, a, inside)), compared_at order key xs j inside) (by (eq-or-lt_of_le a))
+
   pub rises : (xs : List Bytes) (key : Bytes) → ascends order xs ≡ true → Rises (compared order xs key)
-  rises xs key up i j a b =
-      let l : length (compared order xs key) ≡ length xs = length-map xs (λ x. order x key) in
-      let t = rises_by key xs (sorted_from_ascends xs up) i j a (omega (arith, l, b)) in
-      omega (
-        arith,
-        t,
-        ap ordering_index (compared_at order key xs i (omega (arith, l, a, b))),
-        ap ordering_index (compared_at order key xs j (omega (arith, l, b))),
-      )
+  rises xs key up = sorted_rises key xs (sorted_from_ascends xs up)

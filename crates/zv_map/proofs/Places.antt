@@ -1,8 +1,7 @@
 -- Maps by the places of their keys: what a search of ascending keys finds, what is there, what a change does at such a place,
 -- and what is found after a change.
 use Rattle.std.proofs.Common.{◌≡◌, ℕ, zero, suc, ◌-◌, ◌<◌, ◌≤◌, Bool, true, false, cond, List, [], ◌∷◌, length, take, drop, Option, Some, None, Result, Ok}
-use Rattle.std.proofs.Common.{Err, refl, sym, ◌∙◌, ap, inl, inr, arith, slice_range}
-use Rattle.std.proofs.Math.Nat.{eq-or-lt_of_le}
+use Rattle.std.proofs.Common.{Err, refl, sym, ◌∙◌, ap, arith, slice_range}
 use Rattle.std.proofs.lemmas.Cmp.{tied_itself, eq_by_cmp_equiv}
 use Rattle.std.proofs.lemmas.List.{length-map, take-map, drop-map}
 use Rattle.std.proofs.lemmas.List.Elements.{All-from_recursion, recursion_from_All}
@@ -19,7 +18,8 @@ use Rattle.std.specs.Result.{MatchResult}
 use Rattle.std.specs.declared.cmp.Ordering.{Ordering}
 use Rattle.std.specs.declared.cmp.Ordering.TheVariants.{Less, Equal, Greater}
 use Rattle.std.specs.BTreeMap.{is_at}
-use Rattle.zv_ule.specs.Search.{compared, answer_at, Rises, IsHit, IsGap, Found}
+use Rattle.zv_ule.specs.Search.{compared, IsHit, IsGap, Found}
+use Rattle.zv_map.proofs.Ascents.{compared_at, sorted_rises}
 use Rattle.zv_map.specs.Keys.{Bytes, nth}
 use Rattle.zv_map.specs.Maps.{IsMap, keys_of, values_of, look_up, insert_entry, without_key, rank, set_value_at, IsAt}
 
@@ -52,11 +52,6 @@ gap_next a answers i e h = record {
   greater = elim [ zero ↦ λ l s. absurd (omega arith) | suc j ↦ λ l s. h.greater j (omega arith) (omega arith) ];
 }
 
-index_top : (r : Ordering) → ordering_index r ≤ 2
-index_top Less = omega arith
-index_top Equal = omega arith
-index_top Greater = omega arith
-
 index_greater : (r : Ordering) → 2 ≤ ordering_index r → r ≡ Greater
 index_greater Less h = absurd (omega arith)
 index_greater Equal h = absurd (omega arith)
@@ -64,17 +59,10 @@ index_greater Greater h = refl
 
 -- ---- places among keys
 
-pub compared_at : (order : Bytes → Bytes → Ordering) (k : Bytes) (ks : List Bytes) (i : ℕ) → i < length ks →
-    answer_at (compared order ks k) i ≡ order (nth ks i) k
-compared_at order k [] i h = absurd (omega arith)
-compared_at order k (x ∷ ks) zero h = refl
-compared_at order k (x ∷ ks) (suc i) h = compared_at order k ks i (omega arith)
-
 -- the answers of a range
 pub compared_range : (order : Bytes → Bytes → Ordering) (k : Bytes) (ks : List Bytes) (i j : ℕ) →
     slice_range (compared order ks k) i j ≡ compared order (slice_range ks i j) k
-compared_range order k ks i j =
-    ap (λ (xs : List Ordering). take (j - i) xs) (drop-map (λ x. order x k) i ks) ∙ take-map (λ x. order x k) (j - i) (drop i ks)
+compared_range order k ks i j = ap (λ (xs : List Ordering). take (j - i) xs) (drop-map (λ x. order x k) i ks) ∙ take-map (λ x. order x k) (j - i) (drop i ks)
 
 module _ {X : Type 0} (order : Bytes → Bytes → Ordering) (k : Bytes) (m : List (Bytes × X)) (i : ℕ) where
   -- places among the answers are places among the entries
@@ -89,27 +77,7 @@ module _ {order : Bytes → Bytes → Ordering} (total : IsTotalOrder order) (k 
   turned : (x : Bytes) (r : Ordering) → order x k ≡ r → order k x ≡ ordering_reverse r
   turned x r e = total.antisymm k x ∙ ap ordering_reverse e
 
-  -- what is below y answers no more than y
-  index_by : (x y : Bytes) (r : Ordering) → order x y ≡ Less → order y k ≡ r → ordering_index (order x k) ≤ ordering_index r
-  index_by x y Less e h = let t = total.trans x y k e h in omega (arith, ap ordering_index t)
-  index_by x y Equal e h = let t : order x k ≡ Less = sym (alike_right total y k x h) ∙ e in omega (arith, ap ordering_index t)
-  index_by x y Greater e h = index_top (order x k)
-
   module _ (ks : List Bytes) (up : IsStrictlySortedBy order ks) where
-    rises_by : (i j : ℕ) → i ≤ j → j < length ks → ordering_index (order (nth ks i) k) ≤ ordering_index (order (nth ks j) k)
-    rises_by i j a b = elim (eq-or-lt_of_le a) [
-      | inl e ↦ omega (arith, ap (λ n. ordering_index (order (nth ks n) k)) e)
-      | inr l ↦ index_by (nth ks i) (nth ks j) (order (nth ks j) k) (Less-from_sorted order ks i j [] up l b) refl
-    ]
-
-    rises : Rises (compared order ks k)
-    rises i j a b =
-        let l : length (compared order ks k) ≡ length ks = length-map ks (λ x. order x k) in
-        let t = rises_by i j a (omega (arith, l, b)) in
-        let at : (n : ℕ) → n < length ks → ordering_index (answer_at (compared order ks k) n) ≡ ordering_index (order (nth ks n) k) =
-        λ n h. ap ordering_index (compared_at order k ks n h) in
-        omega (arith, t, at i (omega (arith, l, a, b)), at j (omega (arith, l, b)))
-
     hit_is_at : (i : ℕ) → IsHit (compared order ks k) i → IsAt (compared order ks k) i
     hit_is_at i h =
         let l : length (compared order ks k) ≡ length ks = length-map ks (λ x. order x k) in
@@ -122,7 +90,7 @@ module _ {order : Bytes → Bytes → Ordering} (total : IsTotalOrder order) (k 
     -- what a search of ascending keys found
     pub placed : (r : Result ℕ ℕ) → Found (compared order ks k) r → MatchResult r (IsAt (compared order ks k)) (IsGap (compared order ks k))
     placed (Ok i) h = hit_is_at i h
-    placed (Err i) h = h.1 rises
+    placed (Err i) h = h.1 (sorted_rises total k ks up)
 
   -- each key stands at its place, and any other key has a gap
   pub by_place : (ks : List Bytes) → IsStrictlySortedBy order ks → (P : Type 0) → ((i : ℕ) → IsAt (compared order ks k) i → P) →
@@ -136,7 +104,7 @@ module _ {order : Bytes → Bytes → Ordering} (total : IsTotalOrder order) (k 
         | Greater ↦ λ e. gap 0 (record {
           within = omega arith;
           less = λ j l. absurd (omega arith);
-          greater = λ j l s. index_greater _ (omega (arith, rises (x ∷ ks) up 0 j l s, ap ordering_index e));
+          greater = λ j l s. index_greater _ (omega (arith, sorted_rises total k (x ∷ ks) up 0 j l s, ap ordering_index e));
         })
       ] in
       by (order x k) refl
@@ -270,8 +238,7 @@ module _ {order : Bytes → Bytes → Ordering} (total : IsTotalOrder order) {X 
   found_with [] k j x = refl
   found_with (p ∷ m) k j x =
       let rest : Option X = look_up order m j in
-      let by : (r : Ordering) → order k p.0 ≡ r →
-      look_up order (match_ordering r ((k, x) ∷ p ∷ m) ((p.0, x) ∷ m) (p ∷ insert_entry order m k x)) j
+      let by : (r : Ordering) → order k p.0 ≡ r → look_up order (match_ordering r ((k, x) ∷ p ∷ m) ((p.0, x) ∷ m) (p ∷ insert_entry order m k x)) j
       ≡ cond (is_eq (order j k)) (Some x) (look_up order (p ∷ m) j) = elim [
         | Less ↦ λ e. refl
         | Equal ↦ λ e. rw (alike_right total k p.0 j e) (twice (is_eq (order j p.0)) (Some x) (Some p.1) rest)

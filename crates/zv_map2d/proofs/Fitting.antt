@@ -1,33 +1,26 @@
 -- What fits, by the places of the keys.
-use Rattle.std.proofs.Common.{◌≡◌, ℕ, ◌+◌, ◌&&◌, List, length, Some, None, refl, sym, ◌∙◌, ap}
+use Rattle.std.proofs.Common.{◌≡◌, ℕ, ◌+◌, Bool, true, ◌&&◌, List, length, Some, None, refl, sym, ◌∙◌, ap}
 use Rattle.std.specs.Cmp.{IsTotalOrder}
 use Rattle.std.specs.declared.cmp.Ordering.{Ordering}
-use Rattle.zv_map.proofs.Places.{look_up_gap}
 use Rattle.zv_map.specs.Maps.{IsAt, keys_of, look_up}
 use Rattle.zv_owned.specs.Size.{takes_insert, takes_replace}
-use Rattle.zv_ule.specs.Search.{compared, IsGap}
-use Rattle.zv_map2d.specs.Fits.{Rule, pair_fits, fits, texts_rule, fits_texts}
+use Rattle.zv_ule.specs.Search.{compared}
+use Rattle.zv_map2d.specs.Fits.{IsTaken, Rule, fits, texts_rule, fits_texts}
 use Rattle.zv_map2d.specs.Image.{by_bytes}
 use Rattle.zv_map2d.specs.Keys.{Bytes, nth}
 use Rattle.zv_map2d.specs.Rows.{Rows, firsts, seconds, values, IsWell, find, before, row_at}
-use Rattle.zv_map2d.proofs.PairPlaces.{by_places, find_new_row, find_new_pair, find_pair, look_up_row, place_of_pair}
+use Rattle.zv_map2d.proofs.PairPlaces.{by_places, find_new_row, find_new_pair, find_pair, place_of_pair}
 
-module _ (rule : Rule) {order0 order1 : Bytes → Bytes →
-    Ordering} (total0 : IsTotalOrder order0) (total1 : IsTotalOrder order1) (m : Rows) (k0 k1 v : Bytes) where
-  -- the row is missing
-  pub fits_new_row : (i : ℕ) → IsGap (compared order0 (firsts m) k0) i →
-      fits rule order0 order1 m k0 k1 v ≡ (rule.takes0 (firsts m) (length k0) && pair_fits rule m k1 v)
-  fits_new_row i gap = rw (find_new_row total0 total1 m k0 k1 i gap, look_up_gap total0 k0 m i gap) refl
+-- what a list takes is what an equal list takes
+pub is_taken : (takes : List Bytes → ℕ → Bool) {xs ys : List Bytes} (n : ℕ) → xs ≡ ys → takes ys n ≡ true → IsTaken takes xs n
+is_taken takes n same h = record { taken = ap (λ (zs : List Bytes). takes zs n) same ∙ h }
 
-  module _ (i j : ℕ) (at : IsAt (compared order0 (firsts m) k0) i) where
-    -- the row is there, and the pair is missing
-    pub fits_new_pair : IsGap (compared order1 (keys_of (row_at m i)) k1) j → fits rule order0 order1 m k0 k1 v ≡ pair_fits rule m k1 v
-    fits_new_pair gap = rw (find_new_pair total0 total1 m k0 k1 i at j gap, look_up_row total0 total1 m k0 k1 i at) refl
-
-    -- the pair is there
-    pub fits_pair : IsAt (compared order1 (keys_of (row_at m i)) k1) j →
-        fits rule order0 order1 m k0 k1 v ≡ rule.replaces (values m) (before m i + j) (length v)
-    fits_pair hit = rw (find_pair total0 total1 m k0 k1 i at j hit, place_of_pair total0 total1 m k0 k1 i at j hit) refl
+-- the pair is there
+pub fits_pair : (rule : Rule) {order0 order1 : Bytes → Bytes → Ordering} (total0 : IsTotalOrder order0) (total1 : IsTotalOrder order1) (m : Rows)
+    (k0 k1 v : Bytes) (i j : ℕ) → IsAt (compared order0 (firsts m) k0) i → IsAt (compared order1 (keys_of (row_at m i)) k1) j →
+    fits rule order0 order1 m k0 k1 v ≡ rule.replaces (values m) (before m i + j) (length v)
+fits_pair rule total0 total1 m k0 k1 v i j at hit =
+    rw (find_pair total0 total1 m k0 k1 i at j hit, place_of_pair total0 total1 m k0 k1 i at j hit) refl
 
 -- maps from two texts to bytes
 module _ (m : Rows) (k0 k1 v : Bytes) where

@@ -1,17 +1,18 @@
 -- A map in two levels as four lists: which map they stand for, and where a row stands in them.
-use Rattle.std.proofs.Common.{◌≡◌, ℕ, zero, suc, ◌+◌, ◌-◌, ◌<◌, ◌≤◌, List, [], ◌∷◌, ◌++◌, length, get_or, take, drop, map, Some, refl, sym, ◌∙◌, ap, subst}
-use Rattle.std.proofs.Common.{arith, length-append, length-take-le, length-drop}
-use Rattle.std.proofs.lemmas.List.Concat.{flat_map-append}
-use Rattle.std.proofs.lemmas.List.{get_or-append-add, get_or_append_left, length-map, take_at, drop_at, take-append-drop, nil_from_length}
+use Rattle.std.proofs.Common.{◌≡◌, ℕ, zero, suc, ◌+◌, ◌-◌, ◌<◌, ◌≤◌, List, [], ◌∷◌, ◌++◌, length, get_or, take, drop, map, Some, refl, sym, ◌∙◌, ap}
+use Rattle.std.proofs.Common.{arith, length-append}
+use Rattle.std.proofs.Math.Seq.{split_at}
+use Rattle.std.proofs.lemmas.List.Concat.{flat_map-append, get_or-flat_map}
+use Rattle.std.proofs.lemmas.List.{drop-drop, drop_at, get_or-map, length-map, map-append, map-id, take-append-drop, take_at}
 use Rattle.std.proofs.lemmas.Option.{slice_get-get_or}
-use Rattle.std.proofs.lemmas.Slice.Zip.{firsts-zip, seconds-zip, length-zip}
 use Rattle.std.specs.List.{flat_map, zip, slice_range, slice_get, AllByRecursion}
 use Rattle.std.specs.declared.cmp.Ordering.{Ordering}
-use Rattle.zv_map.specs.Maps.{keys_of, values_of}
+use Rattle.zv_map.specs.Maps.{values_of}
+use Rattle.zv_var.specs.Format.{pieces}
 use Rattle.zv_map2d.specs.Keys.{Bytes, nth}
-use Rattle.zv_map2d.specs.Rows.{Rows, firsts, seconds, values, ends_from, ends, rows_from, IsFlat, IsRow, before, row_at, size}
+use Rattle.zv_map2d.specs.Rows.{Rows, firsts, seconds, values, ends_from, ends, rows_of, IsFlat, IsRow, before, row_at, size}
 
-pub zip_parts : (r : List (Bytes × Bytes)) → zip (keys_of r) (values_of r) ≡ r
+pub zip_parts : {K X : Type 0} (r : List (K × X)) → zip (map (λ p. p.0) r) (map (λ p. p.1) r) ≡ r
 zip_parts [] = refl
 zip_parts (p ∷ r) = ap (λ z. p ∷ z) (zip_parts r)
 
@@ -21,43 +22,40 @@ zip_parts (p ∷ r) = ap (λ z. p ∷ z) (zip_parts r)
 abbrev pub pick : (Bytes × Bytes → Bytes) → Rows → List Bytes
 pick g m = flat_map (λ r. map g r.1) m
 
+pub pick_is : (g : Bytes × Bytes → Bytes) (m : Rows) → pick g m ≡ map g (flat_map (λ r. r.1) m)
+pick_is g [] = refl
+pick_is g (r ∷ m) = ap (λ z. map g r.1 ++ z) (pick_is g m) ∙ sym (map-append g r.1 (flat_map (λ q. q.1) m))
+
 pub length_pick : (g : Bytes × Bytes → Bytes) (m : Rows) → length (pick g m) ≡ size m
-length_pick g [] = refl
-length_pick g (r ∷ m) = let t = length_pick g m in
-    omega (arith, t, length-append (map g r.1) (pick g m), length-append r.1 (flat_map (λ q. q.1) m), length-map r.1 g)
+length_pick g m = ap length (pick_is g m) ∙ length-map (flat_map (λ r. r.1) m) g
 
 pub values_as_many : (m : Rows) → length (values m) ≡ length (seconds m)
 values_as_many m = length_pick (λ p. p.1) m ∙ sym (length_pick (λ p. p.0) m)
 
 -- ---- row i
 
-module _ (m : Rows) (i : ℕ) where
-  pub size_split : size m ≡ before m i + size (drop i m)
-  size_split =
-      ap size (sym (take-append-drop i m))
-      ∙ (ap length (flat_map-append (λ r. r.1) (take i m) (drop i m)) ∙ length-append (flat_map (λ r. r.1) (take i m)) (flat_map (λ r. r.1) (drop i m)))
+-- as many pairs as stand before a row
+pub before_within : (m : Rows) (i : ℕ) → before m i ≤ size m
+before_within m i =
+    let whole = ap size (sym (take-append-drop i m)) ∙ ap length (flat_map-append (λ r. r.1) (take i m) (drop i m)) in
+    omega (arith, whole, length-append (flat_map (λ r. r.1) (take i m)) (flat_map (λ r. r.1) (drop i m)))
 
-  -- as many pairs as stand before a row
-  pub before_within : before m i ≤ size m
-  before_within = omega (arith, size_split)
+row_is : (m : Rows) (i : ℕ) → i < length m → get_or m i ([], []) ≡ (nth (firsts m) i, row_at m i)
+row_is m i h k = (sym (get_or-map (λ r. r.0) m i ([], []) [] h) k, sym (get_or-map (λ r. r.1) m i ([], []) [] h) k)
 
 pub row_split : (m : Rows) (i : ℕ) → i < length m → m ≡ take i m ++ (nth (firsts m) i, row_at m i) ∷ drop (suc i) m
-row_split [] i h = absurd (omega arith)
-row_split (q ∷ m) zero h = refl
-row_split (q ∷ m) (suc i) h = ap (λ z. q ∷ z) (row_split m i (omega arith))
+row_split m i h = split_at m i ([], []) h ∙ ap (λ r. take i m ++ r ∷ drop (suc i) m) (row_is m i h)
 
 pub row_pair : (m : Rows) (i : ℕ) → i < length m → slice_get m i ≡ Some (nth (firsts m) i, row_at m i)
-row_pair [] i h = absurd (omega arith)
-row_pair (q ∷ m) zero h = refl
-row_pair (q ∷ m) (suc i) h = row_pair m i (omega arith)
+row_pair m i h = slice_get-get_or m i ([], []) h ∙ ap Some (row_is m i h)
 
-before_next : (q : Bytes × List (Bytes × Bytes)) (m : Rows) (i : ℕ) → before (q ∷ m) (suc i) ≡ length q.1 + before m i
+pub before_next : (q : Bytes × List (Bytes × Bytes)) (m : Rows) (i : ℕ) → before (q ∷ m) (suc i) ≡ length q.1 + before m i
 before_next q m i = length-append q.1 (flat_map (λ r. r.1) (take i m))
 
 pub before_suc : (m : Rows) (i : ℕ) → i < length m → before m (suc i) ≡ before m i + length (row_at m i)
 before_suc [] i h = absurd (omega arith)
 before_suc (q ∷ m) zero h = omega (arith, before_next q m 0)
-before_suc (q ∷ m) (suc i) h = let t = before_suc m i (omega arith) in omega (arith, t, before_next q m i, before_next q m (suc i))
+before_suc (q ∷ m) (suc i) h = omega (arith, before_suc m i (omega arith), before_next q m i, before_next q m (suc i))
 
 -- a row of a well formed map
 pub row_well : (order : Bytes → Bytes → Ordering) (m : Rows) (i : ℕ) → AllByRecursion (IsRow order) m → i < length m →
@@ -86,41 +84,45 @@ module _ (g : Bytes × Bytes → Bytes) (m : Rows) (i : ℕ) (h : i < length m) 
 
     pub get_pair : j < length (row_at m i) → slice_get (pick g m) (before m i + j) ≡ slice_get (map g (row_at m i)) j
     get_pair k =
+        let row : row_at m i ≡ (get_or m i ([], [])).1 = ap (λ r. r.1) (sym (row_is m i h)) in
         let l : j < length (map g (row_at m i)) = omega (arith, length-map (row_at m i) g) in
         let there : get_or (pick g m) (before m i + j) [] ≡ get_or (map g (row_at m i)) j [] =
-        ap (λ (z : List Bytes). get_or z (before m i + j) []) pick_split
-        ∙ (ap (λ (n : ℕ). get_or (pick g (take i m) ++ (map g (row_at m i) ++ pick g (drop (suc i) m))) (n + j) []) (sym (length_pick g (take i m)))
-        ∙ (get_or-append-add (pick g (take i m)) _ j [] ∙ get_or_append_left (map g (row_at m i)) _ [] j l)) in
+        ap (λ n. get_or (pick g m) (n + j) []) (sym (length_pick g (take i m)))
+        ∙ get_or-flat_map (λ r. map g r.1) m i j ([], []) [] h (omega (arith, l, ap (λ z. length (map g z)) row))
+        ∙ ap (λ z. get_or (map g z) j []) (sym row) in
         slice_get-get_or (pick g m) (before m i + j) [] (pair_within k) ∙ (ap Some there ∙ sym (slice_get-get_or (map g (row_at m i)) j [] l))
 
 -- ---- ends
 
 pub length_ends : (n : ℕ) (m : Rows) → length (ends_from n m) ≡ length m
 length_ends n [] = refl
-length_ends n (q ∷ m) = let t = length_ends (n + length q.1) m in omega (arith, t)
+length_ends n (q ∷ m) = ap suc (length_ends (n + length q.1) m)
 
 pub end_at : (n : ℕ) (m : Rows) (i : ℕ) → i < length m → get_or (ends_from n m) i 0 ≡ n + before m (suc i)
 end_at n [] i h = absurd (omega arith)
 end_at n (q ∷ m) zero h = omega (arith, before_next q m 0)
-end_at n (q ∷ m) (suc i) h = let t = end_at (n + length q.1) m i (omega arith) in omega (arith, t, before_next q m (suc i))
+end_at n (q ∷ m) (suc i) h = omega (arith, end_at (n + length q.1) m i (omega arith), before_next q m (suc i))
+
+-- cut at the ends of the rows, what f gives row after row is what it gives each row
+pub pieces_at_ends : {A : Type 0} (f : List (Bytes × Bytes) → List A) → ((r : List (Bytes × Bytes)) → length (f r) ≡ length r) → (n : ℕ) (m : Rows)
+    (xs : List A) → drop n xs ≡ flat_map (λ r. f r.1) m → pieces xs n (ends_from n m) ≡ map f (values_of m)
+pieces_at_ends f long n [] xs e = refl
+pieces_at_ends f long n (r ∷ m) xs e =
+    let w : n + length r.1 - n ≡ length r.1 = omega arith in
+    let here : slice_range xs n (n + length r.1) ≡ f r.1 = rw (w, e) (take_at (f r.1) _ (length r.1) (long r.1)) in
+    let rest : drop (n + length r.1) xs ≡ flat_map (λ q. f q.1) m =
+    sym (drop-drop (length r.1) n xs) ∙ (ap (drop (length r.1)) e ∙ drop_at (f r.1) _ (length r.1) (long r.1)) in
+    rw (here, pieces_at_ends f long (n + length r.1) m xs rest) refl
 
 -- ---- the map that lists stand for
 
 -- the lists of a map stand for that map, and for no other
-pub rows_of_flat : (n : ℕ) (m : Rows) → rows_from n (firsts m) (ends_from n m) (seconds m) (values m) ≡ m
-rows_of_flat n [] = refl
-rows_of_flat n (r ∷ m) =
-    let w : n + length r.1 - n ≡ length r.1 = omega arith in
-    let k : length (keys_of r.1) ≡ n + length r.1 - n = length-map r.1 (λ p. p.0) ∙ sym w in
-    let v : length (values_of r.1) ≡ n + length r.1 - n = length-map r.1 (λ p. p.1) ∙ sym w in
-    rw (
-      take_at (keys_of r.1) (seconds m) _ k,
-      take_at (values_of r.1) (values m) _ v,
-      drop_at (keys_of r.1) (seconds m) _ k,
-      drop_at (values_of r.1) (values m) _ v,
-    )
-    (rw (zip_parts r.1, rows_of_flat (n + length r.1) m) refl)
+rows_of_own : (m : Rows) → rows_of (firsts m) (ends m) (seconds m) (values m) ≡ m
+rows_of_own m =
+    let pairs : zip (seconds m) (values m) ≡ flat_map (λ r. r.1) m = rw (pick_is (λ p. p.0) m, pick_is (λ p. p.1) m) (zip_parts (flat_map (λ r. r.1) m)) in
+    let rows : pieces (flat_map (λ r. r.1) m) 0 (ends m) ≡ values_of m = pieces_at_ends (λ r. r) (λ r. refl) 0 m _ refl ∙ map-id (values_of m) in
+    rw (pairs, rows) (zip_parts m)
 
 -- four lists that are a map's stand for it
-pub view_of : (k0s : List Bytes) (es : List ℕ) (k1s vs : List Bytes) (m : Rows) → IsFlat k0s es k1s vs m → rows_from 0 k0s es k1s vs ≡ m
-view_of k0s es k1s vs m h = rw (h.firsts_are, h.ends_are, h.seconds_are, h.values_are) (rows_of_flat 0 m)
+pub view_of : (k0s : List Bytes) (es : List ℕ) (k1s vs : List Bytes) (m : Rows) → IsFlat k0s es k1s vs m → rows_of k0s es k1s vs ≡ m
+view_of k0s es k1s vs m h = rw (h.firsts_are, h.ends_are, h.seconds_are, h.values_are) (rows_of_own m)

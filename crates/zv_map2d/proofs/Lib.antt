@@ -1,12 +1,10 @@
-pub mod Ascents
-pub mod Changed
 pub mod FiniteMap
 pub mod Fitting
 pub mod Flat
-pub mod Frames
 pub mod Kept
 pub mod Numbers
 pub mod OnlyImage
+pub mod Outcomes
 pub mod PairPlaces
 pub mod Parsed
 pub mod RowPairs

@@ -1,14 +1,13 @@
 -- What is found and changed in a map in two levels, by the places of the keys.
-use Rattle.std.proofs.Common.{◌≡◌, ℕ, zero, suc, ◌+◌, ◌<◌, ◌≤◌, List, [], ◌∷◌, length, Option, Some, None, refl, sym, ◌∙◌, ap, arith}
+use Rattle.std.proofs.Common.{◌≡◌, ℕ, ◌+◌, ◌<◌, List, [], ◌∷◌, length, Some, None, sym, ◌∙◌, ap, arith}
 use Rattle.std.proofs.lemmas.List.{nil_from_length, set_split, length-map}
 use Rattle.std.proofs.lemmas.List.Edits.{length-remove}
 use Rattle.std.proofs.lemmas.Option.{slice_get-get_or}
 use Rattle.std.specs.Cmp.{IsTotalOrder}
-use Rattle.std.specs.List.{insert, remove, slice_get}
+use Rattle.std.specs.List.{insert, remove}
 use Rattle.std.specs.Option.{unwrap_or}
 use Rattle.std.specs.declared.cmp.Ordering.{Ordering}
-use Rattle.zv_map.proofs.Places.{at_within, gap_within, by_place, look_up_at, look_up_gap, rank_at, rank_gap, insert_entry_at, insert_entry_gap, without_key_at}
-use Rattle.zv_map.proofs.Places.{without_key_gap}
+use Rattle.zv_map.proofs.Places.{at_within, by_place, look_up_at, look_up_gap, rank_at, insert_entry_at, insert_entry_gap, without_key_at, without_key_gap}
 use Rattle.zv_map.specs.Maps.{IsAt, keys_of, values_of, look_up, insert_entry, without_key, rank, set_value_at}
 use Rattle.zv_ule.specs.Search.{compared, IsGap}
 use Rattle.zv_map2d.specs.Fits.{place}

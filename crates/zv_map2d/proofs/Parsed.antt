@@ -1,136 +1,134 @@
 -- Four lists that pass the checks of a parse are those of a map, and those of a map pass them.
-use Rattle.std.proofs.Common.{◌≡◌, ℕ, ◌+◌, ◌-◌, ◌<◌, ◌≤◌, true, nat_lt, List, [], ◌∷◌, length, drop, map, slice_range, refl, sym, ◌∙◌, ap, subst, arith}
-use Rattle.std.proofs.Common.{length-append, length-drop, None, zero-add}
+use Rattle.std.proofs.Common.{◌≡◌, ℕ, ◌+◌, ◌-◌, ◌<◌, ◌≤◌, true, ◌&&◌, nat_lt, List, [], ◌∷◌, ◌++◌, length, take, drop, map, slice_range, Some}
+use Rattle.std.proofs.Common.{None, refl, sym, ◌∙◌, ap, subst, arith, length-append, length-drop, length-take-le, zero-add}
 use Rattle.std.proofs.lemmas.Bool.{and_parts}
 use Rattle.std.proofs.lemmas.Bool.Decides.{nat_tests}
-use Rattle.std.proofs.lemmas.List.{length-map, drop-drop, drop_all, length-take-le, take_at, drop_at}
+use Rattle.std.proofs.lemmas.List.{drop-map, drop_all, length-map, take-map}
 use Rattle.std.proofs.lemmas.List.Folds.{drop_split}
-use Rattle.std.proofs.lemmas.Slice.Zip.{firsts-zip, seconds-zip, length-zip}
+use Rattle.std.proofs.lemmas.Option.{same_Some}
+use Rattle.std.proofs.lemmas.Slice.Zip.{firsts-zip, seconds-zip}
 use Rattle.std.specs.Cmp.{IsTotalOrder}
-use Rattle.std.specs.List.{list_all, AllByRecursion, zip}
+use Rattle.std.specs.List.{list_all, AllByRecursion, flat_map, zip}
 use Rattle.std.specs.List.Sorted.{IsStrictlySortedBy}
-use Rattle.std.specs.Map.{keys_of}
+use Rattle.std.specs.Ordering.{is_lt}
 use Rattle.std.specs.declared.cmp.Ordering.{Ordering}
-use Rattle.zv_map2d.specs.Causes.{climbs, last_of, stretches, Lists, keys_ascend, lists_fault}
-use Rattle.zv_map2d.specs.Causes.{rows_of_lists}
-use Rattle.zv_map2d.specs.Keys.{Bytes, ascends}
-use Rattle.zv_map2d.specs.Rows.{Rows, IsRow, ends_from, firsts, rows_from, seconds, values}
-use Rattle.zv_map2d.specs.Views.{IsHeld}
-use Rattle.zv_map2d.proofs.Ascents.{ascends_from_sorted, climbs_first, last_above, sorted_from_ascends}
-use Rattle.zv_map2d.proofs.Flat.{length_ends, values_as_many}
+use Rattle.zv_map.proofs.Ascents.{sorted_from_ascends}
+use Rattle.zv_map.specs.Maps.{keys_of, values_of}
+use Rattle.zv_map2d.specs.Causes.{last_ascending, Lists, keys_ascend, lists_fault}
+use Rattle.zv_var.specs.Format.{pieces}
+use Rattle.zv_map2d.specs.Keys.{Bytes, ascends, below_next}
+use Rattle.zv_map2d.specs.Rows.{Rows, IsFlat, IsRow, IsWell, ends_from, firsts, rows_of, seconds}
+use Rattle.zv_map2d.proofs.Flat.{pick_is, pieces_at_ends, values_as_many}
+use Rattle.zv_map2d.proofs.Seen.{ends_count, rows_count}
 
--- from place n on, the lists are those of the rows, which are well
-pub record IsParsed (order : Bytes → Bytes → Ordering) (n : ℕ) (ks : List Bytes) (es : List ℕ) (xs ys : List Bytes) (m : Rows) : Type 0 where
-  pub firsts_are : ks ≡ firsts m
-  pub ends_are : es ≡ ends_from n m
-  pub seconds_are : drop n xs ≡ seconds m
-  pub values_are : drop n ys ≡ values m
-  pub rows : AllByRecursion (IsRow order) m
+-- ---- numbers that ascend
 
-module _ (order : Bytes → Bytes → Ordering) (total : IsTotalOrder order) where
-  pub parsed : (n : ℕ) (ks : List Bytes) (es : List ℕ) (xs ys : List Bytes) → length ks ≡ length es → length ys ≡ length xs →
-      climbs n es ≡ true → last_of n es ≡ length xs → list_all (ascends order) (stretches n es xs) ≡ true →
-      IsParsed order n ks es xs ys (rows_from n ks es (drop n xs) (drop n ys))
-  parsed n [] [] xs ys even0 even1 climb end up = record {
-    firsts_are = refl;
-    ends_are = refl;
-    seconds_are = drop_all n xs (omega (arith, end));
-    values_are = drop_all n ys (omega (arith, end, even1));
-    rows = tt;
-  }
-  parsed n [] (e ∷ es) xs ys even0 even1 climb end up = absurd (omega (arith, even0))
-  parsed n (k ∷ ks) [] xs ys even0 even1 climb end up = absurd (omega (arith, even0))
-  parsed n (k ∷ ks) (e ∷ es) xs ys even0 even1 climb end up =
-      let a = climbs_first n e es climb in
-      let top : e ≤ length xs = omega (arith, last_above e es a.1, end) in
-      let b = and_parts (ascends order (slice_range xs n e)) (list_all (ascends order) (stretches e es xs)) up in
-      let rest = parsed e ks es xs ys (omega (arith, even0)) even1 a.1 end b.1 in
-      let sx : List Bytes = slice_range xs n e in
-      let sy : List Bytes = slice_range ys n e in
-      let lx : length sx ≡ e - n = length-take-le (e - n) (drop n xs) (omega (arith, top, length-drop n xs)) in
-      let ly : length sy ≡ e - n = length-take-le (e - n) (drop n ys) (omega (arith, top, even1, length-drop n ys)) in
-      let keys_are : keys_of (zip sx sy) ≡ sx = firsts-zip sx sy (ly ∙ sym lx) in
-      let size : length (zip sx sy) ≡ e - n = omega (arith, length-zip sx sy, lx, ly) in
-      let here : n + length (zip sx sy) ≡ e = omega (arith, size, a.0) in
-      let w : n + (e - n) ≡ e = omega (arith, a.0) in
-      rw (drop-drop (e - n) n xs, drop-drop (e - n) n ys, w) (record {
-        firsts_are = ap (λ (z : List Bytes). k ∷ z) rest.firsts_are;
-        ends_are = rw here (ap (λ (z : List ℕ). e ∷ z) rest.ends_are);
-        seconds_are = drop_split xs n e (omega (arith, a.0)) ∙ rw (keys_are, ← rest.seconds_are) refl;
-        values_are = drop_split ys n e (omega (arith, a.0)) ∙ rw (seconds-zip sx sy (ly ∙ sym lx), ← rest.values_are) refl;
-        rows = (
-          (omega (arith, size, a.0), subst (IsStrictlySortedBy order) (sym keys_are) (sorted_from_ascends order total sx b.0)),
-          rest.rows,
-        );
-      })
+ascends_first : (n e top : ℕ) (es : List ℕ) → last_ascending n (e ∷ es) ≡ Some top → (n < e) × (last_ascending e es ≡ Some top)
+ascends_first n e top es h = grind arith
 
--- ---- the lists of a map
+last_above : (n top : ℕ) (es : List ℕ) → last_ascending n es ≡ Some top → n ≤ top
+last_above n top [] h = omega (arith, same_Some n top h)
+last_above n top (e ∷ es) h = let t = ascends_first n e top es h in omega (arith, t.0, last_above e top es t.1)
+
+-- the next end of an ascending joiner
+pub end_within : (n e top : ℕ) (rest es : List ℕ) → rest ≡ e ∷ es → last_ascending n rest ≡ Some top → e ≤ top
+end_within n e top rest es next h = last_above e top es (ascends_first n e top es (ap (last_ascending n) (sym next) ∙ h)).1
+
+-- ---- from the checks to the map
 
 module _ (order : Bytes → Bytes → Ordering) where
-  -- its ends climb
-  pub climbs_ends : (n : ℕ) (m : Rows) → AllByRecursion (IsRow order) m → climbs n (ends_from n m) ≡ true
-  climbs_ends n [] all = refl
-  climbs_ends n (r ∷ m) all =
+  -- from place n on, the first keys, the ends and the pairs are those of the rows
+  record IsCut (n : ℕ) (ks : List Bytes) (es : List ℕ) (xs : List (Bytes × Bytes)) (m : Rows) : Type 0 where
+    pub firsts_are : ks ≡ firsts m
+    pub ends_are : es ≡ ends_from n m
+    pub pairs_are : drop n xs ≡ flat_map (λ r. r.1) m
+    pub rows : AllByRecursion (IsRow order) m
+
+  module _ (total : IsTotalOrder order) (xs : List (Bytes × Bytes)) where
+    cut : (n : ℕ) (ks : List Bytes) (es : List ℕ) → length ks ≡ length es → last_ascending n es ≡ Some (length xs) →
+        list_all (ascends order) (pieces (keys_of xs) n es) ≡ true → IsCut n ks es xs (zip ks (pieces xs n es))
+    cut n [] [] even last up = record { firsts_are = refl; ends_are = refl; pairs_are = drop_all n xs (omega (arith, same_Some n _ last)); rows = tt }
+    cut n [] (e ∷ es) even last up = absurd (omega (arith, even))
+    cut n (k ∷ ks) [] even last up = absurd (omega (arith, even))
+    cut n (k ∷ ks) (e ∷ es) even last up =
+        let a = ascends_first n e (length xs) es last in
+        let b = and_parts (ascends order (slice_range (keys_of xs) n e)) (list_all (ascends order) (pieces (keys_of xs) e es)) up in
+        let rest = cut e ks es (omega (arith, even)) a.1 b.1 in
+        let row : List (Bytes × Bytes) = slice_range xs n e in
+        let size : length row ≡ e - n = length-take-le (e - n) (drop n xs) (omega (arith, last_above e (length xs) es a.1, length-drop n xs)) in
+        let here : n + length row ≡ e = omega (arith, size, a.0) in
+        let keys : slice_range (keys_of xs) n e ≡ keys_of row =
+        ap (λ (z : List Bytes). take (e - n) z) (drop-map (λ p. p.0) n xs) ∙ take-map (λ p. p.0) (e - n) (drop n xs) in
+        record {
+          firsts_are = ap (λ (z : List Bytes). k ∷ z) rest.firsts_are;
+          ends_are = rw here (ap (λ (z : List ℕ). e ∷ z) rest.ends_are);
+          pairs_are = drop_split xs n e (omega (arith, a.0)) ∙ ap (λ (z : List (Bytes × Bytes)). row ++ z) rest.pairs_are;
+          rows = ((omega (arith, size, a.0), subst (IsStrictlySortedBy order) keys (sorted_from_ascends total _ b.0)), rest.rows);
+        }
+
+  -- ---- from the map to the checks
+
+  -- its ends ascend up to the number of its pairs
+  last_of_ends : (n : ℕ) (m : Rows) → AllByRecursion (IsRow order) m → last_ascending n (ends_from n m) ≡ Some (n + length (seconds m))
+  last_of_ends n [] all = ap Some (omega arith)
+  last_of_ends n (r ∷ m) all =
       let h : 0 < length r.1 = all.0.0 in
       let a : nat_lt n (n + length r.1) ≡ true = grind arith in
-      rw a (climbs_ends (n + length r.1) m all.1)
+      let e : n + length r.1 + length (seconds m) ≡ n + length (seconds (r ∷ m)) =
+      omega (arith, length-append (keys_of r.1) (seconds m), length-map r.1 (λ p. p.0)) in
+      rw a (last_of_ends (n + length r.1) m all.1 ∙ ap Some e)
 
-  -- and the stretches of its second keys ascend
-  pub stretches_ascend : (n : ℕ) (m : Rows) (xs : List Bytes) → AllByRecursion (IsRow order) m → drop n xs ≡ seconds m →
-      list_all (ascends order) (stretches n (ends_from n m) xs) ≡ true
-  stretches_ascend n [] xs all e = refl
-  stretches_ascend n (r ∷ m) xs all e =
-      let l : length (keys_of r.1) ≡ length r.1 = length-map r.1 (λ p. p.0) in
-      let w : n + length r.1 - n ≡ length r.1 = omega arith in
-      let here : slice_range xs n (n + length r.1) ≡ keys_of r.1 = rw (w, e) (take_at (keys_of r.1) (seconds m) (length r.1) l) in
-      let rest : drop (n + length r.1) xs ≡ seconds m =
-      sym (drop-drop (length r.1) n xs) ∙ (ap (drop (length r.1)) e ∙ drop_at (keys_of r.1) (seconds m) (length r.1) l) in
-      rw (here, ascends_from_sorted order (keys_of r.1) all.0.1) (stretches_ascend (n + length r.1) m xs all.1 rest)
+  ascends_from_sorted : (xs : List Bytes) → IsStrictlySortedBy order xs → ascends order xs ≡ true
+  unfolding IsStrictlySortedBy
+  ascends_from_sorted [] up = refl
+  ascends_from_sorted (x ∷ []) up = refl
+  ascends_from_sorted (x ∷ y ∷ ys) up = ap (λ (o : Ordering). is_lt o && below_next order y ys) up.0.0 ∙ ascends_from_sorted (y ∷ ys) up.1
 
--- its ends go up to the number of its pairs
-pub last_of-ends : (n : ℕ) (m : Rows) → last_of n (ends_from n m) ≡ n + length (seconds m)
-last_of-ends n [] = omega arith
-last_of-ends n (r ∷ m) =
-    last_of-ends (n + length r.1) m ∙ omega (arith, length-append (map (λ p. p.0) r.1) (seconds m), length-map r.1 (λ p. p.0))
+  rows_ascend : (m : Rows) → AllByRecursion (IsRow order) m → list_all (ascends order) (map keys_of (values_of m)) ≡ true
+  rows_ascend [] all = refl
+  rows_ascend (r ∷ m) all = rw (ascends_from_sorted (keys_of r.1) all.0.1) (rows_ascend m all.1)
 
 -- ---- lists that are checked
 
-module _ (o0 o1 : Bytes → Bytes → Ordering) (l : Lists) where
+module _ (o0 o1 : Bytes → Bytes → Ordering) where
+  -- four lists are those of the map, whose keys ascend
+  abbrev pub IsHeld : Lists → Rows → Type 0
+  IsHeld l m = IsFlat l.keys0 l.joiner l.keys1 l.values m × IsWell o0 o1 m
+
   -- lists without a fault are those of a map
-  pub held_lists : IsTotalOrder o0 → IsTotalOrder o1 → lists_fault o0 o1 l ≡ None → IsHeld o0 o1 l (rows_of_lists l)
-  held_lists t0 t1 e =
+  pub held_lists : IsTotalOrder o0 → IsTotalOrder o1 → (l : Lists) → lists_fault o0 o1 l ≡ None →
+      IsHeld l (rows_of l.keys0 l.joiner l.keys1 l.values)
+  held_lists t0 t1 l e =
       let even0 : length l.keys0 ≡ length l.joiner = grind (arith, nat_tests) in
       let even1 : length l.values ≡ length l.keys1 = grind (arith, nat_tests) in
-      let climb : climbs 0 l.joiner ≡ true = grind (arith, nat_tests) in
-      let end : last_of 0 l.joiner ≡ length l.keys1 = grind (arith, nat_tests) in
+      let last : last_ascending 0 l.joiner ≡ Some (length l.keys1) = grind (arith, nat_tests) in
       let ascend : keys_ascend o0 o1 l ≡ true = grind (arith, nat_tests) in
-      let up = and_parts (ascends o0 l.keys0) (list_all (ascends o1) (stretches 0 l.joiner l.keys1)) ascend in
-      let p = parsed o1 t1 0 l.keys0 l.joiner l.keys1 l.values even0 even1 climb end up.1 in
-      record {
-        flat = record { firsts_are = p.firsts_are; ends_are = p.ends_are; seconds_are = p.seconds_are; values_are = p.values_are };
-        well = (subst (IsStrictlySortedBy o0) p.firsts_are (sorted_from_ascends o0 t0 l.keys0 up.0), p.rows);
-      }
+      let up = and_parts (ascends o0 l.keys0) (list_all (ascends o1) (pieces l.keys1 0 l.joiner)) ascend in
+      let pairs : List (Bytes × Bytes) = zip l.keys1 l.values in
+      let k1s : keys_of pairs ≡ l.keys1 = firsts-zip l.keys1 l.values even1 in
+      let vs : values_of pairs ≡ l.values = seconds-zip l.keys1 l.values even1 in
+      let long : length l.keys1 ≡ length pairs = sym (ap length k1s) ∙ length-map pairs (λ p. p.0) in
+      let rows = subst (λ z. list_all (ascends o1) (pieces z 0 l.joiner) ≡ true) (sym k1s) up.1 in
+      let p = cut o1 t1 pairs 0 l.keys0 l.joiner even0 (last ∙ ap Some long) rows in (
+        record {
+          firsts_are = p.firsts_are;
+          ends_are = p.ends_are;
+          seconds_are = sym k1s ∙ (ap keys_of p.pairs_are ∙ sym (pick_is (λ p. p.0) (rows_of l.keys0 l.joiner l.keys1 l.values)));
+          values_are = sym vs ∙ (ap values_of p.pairs_are ∙ sym (pick_is (λ p. p.1) (rows_of l.keys0 l.joiner l.keys1 l.values)));
+        },
+        (subst (IsStrictlySortedBy o0) p.firsts_are (sorted_from_ascends t0 l.keys0 up.0), p.rows),
+      )
 
   -- the lists of a map have no fault
-  pub held_fault : (m : Rows) → IsHeld o0 o1 l m → lists_fault o0 o1 l ≡ None
-  held_fault m h =
-      let f = h.flat in
-      let seconds_even = ap length f.seconds_are in
-      let even0 : length l.keys0 ≡ length l.joiner =
-      ap length f.firsts_are ∙ (length-map m (λ r. r.0) ∙ (sym (length_ends 0 m) ∙ sym (ap length f.ends_are))) in
-      let even1 : length l.keys1 ≡ length l.values = seconds_even ∙ (sym (values_as_many m) ∙ sym (ap length f.values_are)) in
-      let climb : climbs 0 l.joiner ≡ true = ap (climbs 0) f.ends_are ∙ climbs_ends o1 0 m h.well.1 in
-      let end : last_of 0 l.joiner ≡ length l.keys1 =
-      ap (last_of 0) f.ends_are ∙ (last_of-ends 0 m ∙ (zero-add (length (seconds m)) ∙ sym seconds_even)) in
+  pub held_fault : (l : Lists) (m : Rows) → IsHeld l m → lists_fault o0 o1 l ≡ None
+  held_fault l m h =
+      let f = h.0 in
+      let long = ap length f.seconds_are in
+      let even0 : length l.keys0 ≡ length l.joiner = rows_count f ∙ sym (ends_count f) in
+      let even1 : length l.keys1 ≡ length l.values = long ∙ (sym (values_as_many m) ∙ sym (ap length f.values_are)) in
+      let last : last_ascending 0 l.joiner ≡ Some (length l.keys1) =
+      ap (last_ascending 0) f.ends_are ∙ (last_of_ends o1 0 m h.1.1 ∙ ap Some (zero-add (length (seconds m)) ∙ sym long)) in
+      let rows = pieces_at_ends keys_of (λ r. length-map r (λ p. p.0)) 0 m (seconds m) refl in
       let ascend : keys_ascend o0 o1 l ≡ true =
-      rw (f.firsts_are, f.ends_are, f.seconds_are, ascends_from_sorted o0 (firsts m) h.well.0)
-      (stretches_ascend o1 0 m (seconds m) h.well.1 refl) in
+      rw (f.firsts_are, f.ends_are, f.seconds_are, ascends_from_sorted o0 (firsts m) h.1.0, rows) (rows_ascend o1 m h.1.1) in
       grind (arith, nat_tests)
-
--- and so are lists that were checked with ends that are theirs
-pub held_read : (o0 o1 : Bytes → Bytes → Ordering) → IsTotalOrder o0 → IsTotalOrder o1 → (k0s k1s vs : List Bytes) {es ends : List ℕ} → es ≡ ends →
-    None ≡ lists_fault o0 o1 (record { keys0 = k0s; joiner = es; keys1 = k1s; values = vs }) →
-    IsHeld o0 o1 (record { keys0 = k0s; joiner = ends; keys1 = k1s; values = vs }) (rows_from 0 k0s ends k1s vs)
-held_read o0 o1 t0 t1 k0s k1s vs {es} {ends} same checked =
-    let l : List ℕ → Lists = λ js. record { keys0 = k0s; joiner = js; keys1 = k1s; values = vs } in
-    subst (λ (js : List ℕ). IsHeld o0 o1 (l js) (rows_from 0 k0s js k1s vs)) same (held_lists o0 o1 (l es) t0 t1 (sym checked))

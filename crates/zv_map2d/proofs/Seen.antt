@@ -1,5 +1,5 @@
 -- What the four lists of a map have.
-use Rattle.std.proofs.Common.{◌≡◌, ℕ, suc, ◌+◌, ◌<◌, ◌≤◌, Bool, true, false, nat_le, List, [], length, get_or, slice_index, slice_range, set, take, zip, IsTrue}
+use Rattle.std.proofs.Common.{◌≡◌, ℕ, suc, ◌+◌, ◌<◌, ◌≤◌, Bool, true, false, List, [], length, get_or, slice_index, slice_range, set, take, zip, IsTrue}
 use Rattle.std.proofs.Common.{Result, Ok, Err, OnOk, OnErr, refl, sym, ◌∙◌, ap, subst, arith, zero-add}
 use Rattle.std.proofs.lemmas.List.{length-map, take-take}
 use Rattle.std.specs.List.{flat_map, slice_get}
@@ -9,27 +9,20 @@ use Rattle.zv_map.specs.Maps.{keys_of, values_of, set_value_at}
 use Rattle.zv_ule.specs.Search.{compared, Found}
 use Rattle.zv_map2d.specs.Keys.{Bytes}
 use Rattle.zv_map2d.specs.Refusals.{is_full}
-use Rattle.zv_map2d.specs.Rows.{Rows, firsts, seconds, values, ends, IsFlat, before, row_at, rows_from}
+use Rattle.zv_map2d.specs.Rows.{Rows, firsts, seconds, values, ends, IsFlat, before, row_at, rows_of}
 use Rattle.zv_map2d.specs.Views.{AreColumns, Map2d, Vector}
 use Rattle.zv_map2d.proofs.Splices.{value_set}
-use Rattle.zv_map2d.proofs.Flat.{before_suc, before_within, end_at, get_pair, length_ends, length_pick, row_range, size_split, values_as_many, view_of}
+use Rattle.zv_map2d.proofs.Flat.{before_suc, before_within, end_at, get_pair, length_ends, length_pick, row_range, values_as_many, view_of}
 use Rattle.zv_map2d.proofs.Flat.{zip_parts}
 
 -- lists that are the same as those of a map
 pub same_lists : {k0s l0s : List Bytes} {es fs : List ℕ} {k1s l1s vs us : List Bytes} {m : Rows} → l0s ≡ k0s → fs ≡ es → l1s ≡ k1s → us ≡ vs →
     IsFlat k0s es k1s vs m → IsFlat l0s fs l1s us m
-same_lists a b c d flat = record {
-  firsts_are = a ∙ flat.firsts_are;
-  ends_are = b ∙ flat.ends_are;
-  seconds_are = c ∙ flat.seconds_are;
-  values_are = d
-      ∙ flat.values_are;
-}
+same_lists a b c d s = record { firsts_are = a ∙ s.firsts_are; ends_are = b ∙ s.ends_are; seconds_are = c ∙ s.seconds_are; values_are = d ∙ s.values_are }
 
 -- the lists of the map that is seen
 pub seen : {u0 u1 u2 : Bool} {k0s : List Bytes} {es : List ℕ} {k1s vs : List Bytes} {a b c d : Vector} {m : Map2d} →
-    record { rows = rows_from 0 k0s es k1s vs; keys0 = a; joiner = b; keys1 = c; values = d } ≡ m → AreColumns u0 u1 u2 k0s es k1s vs →
-    IsFlat k0s es k1s vs m.rows
+    record { rows = rows_of k0s es k1s vs; keys0 = a; joiner = b; keys1 = c; values = d } ≡ m → AreColumns u0 u1 u2 k0s es k1s vs → IsFlat k0s es k1s vs m.rows
 seen {k0s = k0s} {es = es} {k1s = k1s} {vs = vs} same h = subst (λ (v : Map2d). IsFlat k0s es k1s vs v.rows) same h.flat
 
 -- lists of a map are columns
@@ -48,11 +41,8 @@ before_mono m i j h =
     let t : before (take j m) i ≡ before m i = ap (λ z. length (flat_map (λ r. r.1) z)) (take-take i j m h) in
     omega (arith, before_within (take j m) i, t)
 
-below_full : (n : ℕ) → nat_le 4294967295 n ≡ false → n < 4294967295
-below_full n h = grind arith
-
 pub pairs_below : (m : Rows) → is_full m ≡ false → length (seconds m) < 4294967295
-pairs_below m h = below_full (length (seconds m)) h
+pairs_below m h = grind arith
 
 module _ {k0s : List Bytes} {es : List ℕ} {k1s vs : List Bytes} {m : Rows} (s : IsFlat k0s es k1s vs m) where
   pub rows_count : length k0s ≡ length m
@@ -82,8 +72,7 @@ module _ {k0s : List Bytes} {es : List ℕ} {k1s vs : List Bytes} {m : Rows} (s 
 
   -- what a search of a row's second keys found
   pub found_pair : (order : Bytes → Bytes → Ordering) (key : Bytes) (r : Result ℕ ℕ) (i start end : ℕ) → i < length m → start ≡ before m i →
-      end ≡ before m (suc i) →
-      Found (slice_range (compared order k1s key) start end) r → Found (compared order (keys_of (row_at m i)) key) r
+      end ≡ before m (suc i) → Found (slice_range (compared order k1s key) start end) r → Found (compared order (keys_of (row_at m i)) key) r
   found_pair order key r i start end h a b found =
       let same : slice_range (compared order k1s key) start end ≡ compared order (keys_of (row_at m i)) key =
       compared_range order key k1s start end ∙ ap (λ (xs : List Bytes). compared order xs key) (rw (a, b) (row_keys i h)) in
@@ -121,7 +110,7 @@ own m = record { firsts_are = refl; ends_are = refl; seconds_are = refl; values_
 module _ {k0s : List Bytes} {es : List ℕ} {k1s : List Bytes} {C : Type 0} (list : C → List Bytes) (old new : C) {m : Rows} where
   pub value_rows : IsFlat k0s es k1s (list old) m → (i j : ℕ) → i < length m → j < length (row_at m i) → {at : ℕ} → at ≡ before m i + j → (v : Bytes) →
       {A E : Type 0} →
-      (r : Result A E) → OnOk r (list new ≡ set (list old) at v) → OnOk r (rows_from 0 k0s es k1s (list new) ≡ set_value_at m i (set_value_at (row_at m i) j v))
+      (r : Result A E) → OnOk r (list new ≡ set (list old) at v) → OnOk r (rows_of k0s es k1s (list new) ≡ set_value_at m i (set_value_at (row_at m i) j v))
   value_rows s i j h k {at} e v (Ok x) ok = view_of k0s es k1s (list new) _ (same_lists refl refl refl ok (value_set s i j at h e v k))
   value_rows s i j h k e v (Err x) ok = tt
 

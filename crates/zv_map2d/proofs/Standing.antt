@@ -1,95 +1,121 @@
--- What images stand for.
-use Rattle.std.proofs.Common.{◌≡◌, ℕ, ◌+◌, ◌%◌, ◌^◌, ◌<◌, true, eqb, List, [], ◌∷◌, length, map, Option, Some, None, refl, sym, ◌∙◌, ap, subst, arith}
-use Rattle.std.proofs.Common.{length-append, Result, Ok, Err, inl}
+-- Images: the frame and its parts, and what they stand for.
+use Rattle.std.proofs.Common.{◌≡◌, ℕ, ◌+◌, ◌^◌, ◌<◌, ◌≤◌, true, List, [], ◌∷◌, ◌++◌, length, take, drop, Option, Some, None, refl, sym, ◌∙◌, ap, subst, arith}
+use Rattle.std.proofs.Common.{append_assoc, length-append, Result, Ok, Err, inl}
 use Rattle.std.proofs.lemmas.Bool.Decides.{nat_tests}
-use Rattle.std.proofs.lemmas.Cmp.{nat_list_cmp_total}
-use Rattle.std.proofs.lemmas.List.{length-map}
+use Rattle.std.proofs.lemmas.Cmp.{nat_list_cmp_total as total}
+use Rattle.std.proofs.lemmas.List.{append-nil, length-map, length-take-le, nil_from_length, take-append-drop}
+use Rattle.std.proofs.lemmas.Option.{option_and_then_some, same_Some}
 use Rattle.std.specs.List.{AllByRecursion, flat_map}
 use Rattle.std.specs.Result.{result_err, IfOk}
-use Rattle.std.specs.declared.cmp.Ordering.{Ordering}
-use Rattle.zv_ule.specs.Bytes.{IsBytes, le}
-use Rattle.zv_ule.specs.Chunks.{first_fault, chunks_of}
+use Rattle.zv_ule.proofs.ChunkFaults.{plain_bytes}
+use Rattle.zv_ule.proofs.Fields.{le-number_at}
+use Rattle.zv_ule.proofs.Lists.{front_bytes, back_bytes}
+use Rattle.zv_ule.specs.Bytes.{IsBytes, le, number}
 use Rattle.zv_ule.specs.Kinds.{text_fault}
+use Rattle.zv_ule.specs.declared.error.TyName.{TyName}
 use Rattle.zv_ule.specs.declared.error.UleError.{UleError}
-use Rattle.zv_var.proofs.Encoding.{from_codable}
+use Rattle.zv_var.proofs.Encoding.{codable_from_Part}
+use Rattle.zv_var.proofs.Frames.{first_part_of_framed}
 use Rattle.zv_var.proofs.Read.{Part_from_fault, valid_from_fault, fault_from_Part, elements_from_Part}
 use Rattle.zv_var.specs.Format.{elements, list_fault, Part, enc, codable}
+use Rattle.zv_var.specs.Frame.{framed, first_part}
+use Rattle.zv_var.specs.Laws.{AreValid}
 use Rattle.zv_var.specs.Nested.{slice_fault}
-use Rattle.zv_var.specs.declared.error.VarZeroVecFormatError.{VarZeroVecFormatError}
-use Rattle.zv_map2d.specs.Causes.{joiner_fault, lists_read, numbers, read_fault, rows_read, Lists, Readings, lists_fault, part_or}
+use Rattle.zv_owned.proofs.Codable.{fields_fit}
+use Rattle.zv_map.specs.Maps.{keys_of}
+use Rattle.zv_map2d.specs.Causes.{joiner_fault, lists_fault, lists_read, numbers, read_fault, rows_read, Readings}
 use Rattle.zv_map2d.specs.Frame.{Parts, frame, unframe}
-use Rattle.zv_map2d.specs.Image.{by_bytes, bytes_fault, texts_to_bytes, var_list, IsTextMap, Spells, Stands, spelling, fault_of, fault, canon}
+use Rattle.zv_map2d.specs.Image.{by_bytes, bytes_fault, texts_to_bytes, var_list, IsTextMap, Spells, Stands, spelling, fault_of, fault}
 use Rattle.zv_map2d.specs.Keys.{Bytes}
-use Rattle.zv_map2d.specs.Laws.{IsCodable}
+use Rattle.zv_map2d.specs.Laws.{CanonStands, FrameExactly, IsReadExactly, StandsForOne}
 use Rattle.zv_map2d.specs.Rows.{Rows, firsts, seconds, values, ends_from, ends}
-use Rattle.zv_map2d.specs.Views.{IsHeld, Map2d, parts_of}
+use Rattle.zv_map2d.specs.Views.{Map2d, parts_of}
 use Rattle.zv_map2d.specs.declared.error.EditError.{EditError}
-use Rattle.zv_map2d.specs.declared.error.EditError.TheVariants.{Frame}
 use Rattle.zv_map2d.proofs.Flat.{view_of}
-use Rattle.zv_map2d.proofs.Frames.{AreBytes, unframe-frame, frame-unframe}
 use Rattle.zv_map2d.proofs.Numbers.{joiner_written, written_fault, written_numbers}
-use Rattle.zv_map2d.proofs.Parsed.{held_lists, held_fault}
+use Rattle.zv_map2d.proofs.Parsed.{IsHeld, held_lists, held_fault}
 
--- ---- parts
+-- ---- what was framed is read back
 
--- parts that are read without a fault
-pub record IsRead (r : Readings) (p : Parts) : Type 0 where
-  pub joiner : joiner_fault p.joiner ≡ None
-  pub keys0 : r.keys0.fault p.keys0 ≡ None
-  pub keys1 : r.keys1.fault p.keys1 ≡ None
-  pub values : r.values.fault p.values ≡ None
-  pub lists : lists_fault r.order0 r.order1 (lists_read r p) ≡ None
+unframe-frame : (p : Parts) → length (frame p) < 256 ^ 8 → unframe (frame p) ≡ Some p
+unframe-frame p h =
+    let l : length (frame p) ≡ 32 + (length p.keys0 + length p.joiner + length p.keys1 + length p.values) = simp length-append (omega arith) in
+    let a = first_part_of_framed p.keys0 (framed p.joiner ++ (framed p.keys1 ++ framed p.values)) (omega (arith, l)) in
+    let b = first_part_of_framed p.joiner (framed p.keys1 ++ framed p.values) (omega (arith, l)) in
+    let c = first_part_of_framed p.keys1 (framed p.values) (omega (arith, l)) in
+    let d = subst (λ (b : List ℕ). first_part b ≡ Some (p.values, [])) (append-nil (framed p.values)) (first_part_of_framed p.values [] (omega (arith, l))) in
+    rw (a, b, c, d) refl
 
-part_none : (o : Option UleError) (rest : Option EditError) → part_or o rest ≡ None → (o ≡ None) × (rest ≡ None)
-part_none None rest e = (refl, e)
-part_none (Some u) rest e = cc
+-- ---- what is read was framed
 
-pub read_parts : (r : Readings) (p : Parts) → read_fault r p ≡ None → IsRead r p
-read_parts r p e =
-    let a = part_none (joiner_fault p.joiner) _ e in
-    let b = part_none (r.keys0.fault p.keys0) _ a.1 in
-    let c = part_none (r.keys1.fault p.keys1) _ b.1 in
-    let d = part_none (r.values.fault p.values) _ c.1 in
-    record { joiner = a.0; keys0 = b.0; keys1 = c.0; values = d.0; lists = d.1 }
+-- a first part in its frame, and the rest
+record IsCut (b : List ℕ) (x : List ℕ × List ℕ) : Type 0 where
+  pub whole : b ≡ framed x.0 ++ x.1
+  pub part : IsBytes x.0
+  pub rest : IsBytes x.1
 
-pub read_none : (r : Readings) (p : Parts) → IsRead r p → read_fault r p ≡ None
-read_none r p k = rw (k.joiner, k.keys0, k.keys1, k.values) k.lists
+first_cut : (b : List ℕ) (x : List ℕ × List ℕ) → IsBytes b → first_part b ≡ Some x → IsCut b x
+first_cut b x h e =
+    let n : ℕ = number (take 8 b) in
+    let d : List ℕ = drop 8 b in
+    let long : 8 ≤ length b = grind arith in
+    let within : n ≤ length d = grind arith in
+    let cut : (take n d, drop n d) ≡ x = grind arith in
+    let size : le 8 (length (take n d)) ≡ take 8 b =
+    ap (le 8) (length-take-le n d within) ∙ le-number_at 8 (take 8 b) (length-take-le 8 b long) (front_bytes 8 b h long) in
+    let whole : framed (take n d) ++ drop n d ≡ b =
+    append_assoc (le 8 (length (take n d))) (take n d) (drop n d) ∙ (ap (λ (c : List ℕ). le 8 (length (take n d)) ++ c) (take-append-drop n d)
+    ∙ (ap (λ (c : List ℕ). c ++ d) size ∙ take-append-drop 8 b)) in
+    let later = back_bytes 8 b h in
+    subst (IsCut b) cut (record { whole = sym whole; part = front_bytes n d later within; rest = back_bytes n d later })
+
+-- the parts of bytes are bytes
+record AreBytes (p : Parts) : Type 0 where
+  pub keys0 : IsBytes p.keys0
+  pub joiner : IsBytes p.joiner
+  pub keys1 : IsBytes p.keys1
+  pub values : IsBytes p.values
+
+frame-unframe : (b : List ℕ) (p : Parts) → IsBytes b → unframe b ≡ Some p → (b ≡ frame p) × AreBytes p
+frame-unframe b p h e =
+    option_and_then_some _ _ p e (λ x e0 f0. let k0 = first_cut b x h e0 in
+    option_and_then_some _ _ p f0 (λ y e1 f1. let k1 = first_cut x.1 y k0.rest e1 in
+    option_and_then_some _ _ p f1 (λ z e2 f2. let k2 = first_cut y.1 z k1.rest e2 in
+    option_and_then_some _ _ p f2 (λ w e3 f3. let k3 = first_cut z.1 w k2.rest e3 in
+    let q : Parts = record { keys0 = x.0; joiner = y.0; keys1 = z.0; values = w.0 } in
+    let none : length w.1 ≡ 0 = grind arith in
+    let same : q ≡ p = grind arith in
+    let whole : b ≡ frame q = cc (k0.whole, k1.whole, k2.whole, k3.whole, nil_from_length w.1 none, append-nil (framed w.0)) in
+    subst (λ (x : Parts). (b ≡ frame x) × AreBytes x) same (whole, record { keys0 = k0.part; joiner = k1.part; keys1 = k2.part; values = k3.part })))))
 
 -- ---- from the parts to the map
 
-no_slice_fault : (o : Option VarZeroVecFormatError) → slice_fault o ≡ None → o ≡ None
-no_slice_fault None e = refl
-no_slice_fault (Some x) e = cc
-
--- a part, and the valid elements that it spells
-record IsSpelled (fault : Bytes → Option UleError) (b : List ℕ) (xs : List Bytes) : Type 0 where
-  pub part : Part 2 b xs
-  pub valid : AllByRecursion (λ x. fault x ≡ None) xs
-
-spelled : (fault : Bytes → Option UleError) (b : List ℕ) (xs : List Bytes) → IsBytes b → (var_list fault).fault b ≡ None →
-    elements 2 b ≡ xs → IsSpelled fault b xs
-spelled fault b xs bytes none e =
-    let k = no_slice_fault (list_fault 2 fault b) none in
-    subst (IsSpelled fault b) e (record {
-      part = Part_from_fault 2 fault b (omega arith) bytes k;
-      valid = valid_from_fault 2 fault b (omega arith) bytes k;
-    })
+-- a part without a fault spells the elements that are read of it, which are valid
+spelled : (fault : Bytes → Option UleError) (b : List ℕ) {xs : List Bytes} → IsBytes b → (var_list fault).fault b ≡ None → elements 2 b ≡ xs →
+    Part 2 b xs × AreValid fault xs
+spelled fault b bytes none e =
+    let k : list_fault 2 fault b ≡ None = grind arith in
+    subst (λ xs. Part 2 b xs × AreValid fault xs) e (Part_from_fault 2 fault b (omega arith) bytes k, valid_from_fault 2 fault b (omega arith) bytes k)
 
 -- parts of bytes that are read without a fault are those of a map
-pub parts_stand : (p : Parts) → AreBytes p → read_fault texts_to_bytes p ≡ None → Stands (frame p) (rows_read texts_to_bytes p)
-parts_stand p bytes e =
-    let read = read_parts texts_to_bytes p e in
-    let held = held_lists by_bytes by_bytes (lists_read texts_to_bytes p) nat_list_cmp_total nat_list_cmp_total read.lists in
-    let keys0 = spelled text_fault p.keys0 _ bytes.keys0 read.keys0 held.flat.firsts_are in
-    let keys1 = spelled text_fault p.keys1 _ bytes.keys1 read.keys1 held.flat.seconds_are in
-    let values = spelled bytes_fault p.values _ bytes.values read.values held.flat.values_are in
-    let joiner : p.joiner ≡ flat_map (le 4) (ends (rows_read texts_to_bytes p)) =
-    sym (joiner_written p.joiner bytes.joiner read.joiner) ∙ ap (flat_map (le 4)) held.flat.ends_are in
+parts_stand : (image : List ℕ) (p : Parts) → image ≡ frame p → AreBytes p → read_fault texts_to_bytes p ≡ None → Stands image (rows_read texts_to_bytes p)
+parts_stand image p h bytes e =
+    let joiner : joiner_fault p.joiner ≡ None = grind arith in
+    let keys0 : (var_list text_fault).fault p.keys0 ≡ None = grind arith in
+    let keys1 : (var_list text_fault).fault p.keys1 ≡ None = grind arith in
+    let values : (var_list bytes_fault).fault p.values ≡ None = grind arith in
+    let lists : lists_fault by_bytes by_bytes (lists_read texts_to_bytes p) ≡ None = grind arith in
+    let held = held_lists by_bytes by_bytes total total (lists_read texts_to_bytes p) lists in
+    let k0s = spelled text_fault p.keys0 bytes.keys0 keys0 held.0.firsts_are in
+    let k1s = spelled text_fault p.keys1 bytes.keys1 keys1 held.0.seconds_are in
+    let vs = spelled bytes_fault p.values bytes.values values held.0.values_are in
+    let es : p.joiner ≡ flat_map (le 4) (ends (rows_read texts_to_bytes p)) =
+    sym (joiner_written p.joiner bytes.joiner joiner) ∙ ap (flat_map (le 4)) held.0.ends_are in
     record {
-      map = record { in_order = held.well; texts0 = keys0.valid; texts1 = keys1.valid };
+      map = record { in_order = held.1; texts0 = k0s.1; texts1 = k1s.1 };
       parts = p;
-      formed = refl;
-      spelled = record { keys0 = keys0.part; joiner = joiner; keys1 = keys1.part; values = values.part };
+      formed = h;
+      spelled = record { keys0 = k0s.0; joiner = es; keys1 = k1s.0; values = vs.0 };
     }
 
 -- ---- from the map to the parts
@@ -98,69 +124,51 @@ parts_stand p bytes e =
 small_ends : (n top : ℕ) (m : Rows) → n + length (seconds m) < top → AllByRecursion (λ e. e < top) (ends_from n m)
 small_ends n top [] h = tt
 small_ends n top (q ∷ m) h =
-    let l = length-append (map (λ p. p.0) q.1) (seconds m) in
-    let k = length-map q.1 (λ p. p.0) in
-    (omega (arith, l, k), small_ends (n + length q.1) top m (omega (arith, l, k)))
-
-count_small : (b : List ℕ) (xs : List Bytes) → Part 2 b xs → length xs < 256 ^ 2
-count_small b [] p = omega arith
-count_small b (x ∷ xs) p = omega (arith, (from_codable 2 x xs p.0).count_fits)
+    let l : length (seconds (q ∷ m)) ≡ length q.1 + length (seconds m) = omega (arith, length-append (keys_of q.1) (seconds m), length-map q.1 (λ p. p.0)) in
+    (omega (arith, l), small_ends (n + length q.1) top m (omega (arith, l)))
 
 -- any bytes are a slice of bytes
-no_wrong : (cs : List (List ℕ)) → first_fault (λ c. None) cs ≡ None
-no_wrong [] = refl
-no_wrong (c ∷ cs) = no_wrong cs
-
-no_fault : (b : Bytes) → bytes_fault b ≡ None
-no_fault b =
-    let t : eqb (length b % 1) 0 ≡ true = grind arith in
-    rw t (no_wrong (chunks_of 1 b))
-
-no_faults : (xs : List Bytes) → AllByRecursion (λ x. bytes_fault x ≡ None) xs
+no_faults : (xs : List Bytes) → AreValid bytes_fault xs
 no_faults [] = tt
-no_faults (x ∷ xs) = (no_fault x, no_faults xs)
+no_faults (x ∷ xs) = (plain_bytes TyName.U8 1 _ x refl (λ c. refl), no_faults xs)
 
 module _ (p : Parts) (m : Rows) (s : Spells p m) (t : IsTextMap m) where
   ends_fit : AllByRecursion (λ e. e < 2 ^ 32) (ends m)
-  ends_fit = small_ends 0 (2 ^ 32) m (omega (arith, count_small p.keys1 (seconds m) s.keys1))
+  ends_fit = small_ends 0 (2 ^ 32) m (omega (arith, (fields_fit 2 (seconds m) (codable_from_Part 2 p.keys1 (seconds m) s.keys1)).count))
 
   held_of_map : IsHeld by_bytes by_bytes (lists_read texts_to_bytes p) m
-  held_of_map = record {
-    flat = record {
+  held_of_map = (
+    record {
       firsts_are = elements_from_Part 2 p.keys0 (firsts m) (omega arith) s.keys0;
       ends_are = ap numbers s.joiner ∙ written_numbers (ends m) ends_fit;
       seconds_are = elements_from_Part 2 p.keys1 (seconds m) (omega arith) s.keys1;
       values_are = elements_from_Part 2 p.values (values m) (omega arith) s.values;
-    };
-    well = t.in_order;
-  }
+    },
+    t.in_order,
+  )
 
-  pub none_of_map : read_fault texts_to_bytes p ≡ None
-  none_of_map = read_none texts_to_bytes p (record {
-    joiner = ap joiner_fault s.joiner ∙ written_fault (ends m) ends_fit;
-    keys0 = ap slice_fault (fault_from_Part 2 text_fault p.keys0 (firsts m) (omega arith) s.keys0 t.texts0);
-    keys1 = ap slice_fault (fault_from_Part 2 text_fault p.keys1 (seconds m) (omega arith) s.keys1 t.texts1);
-    values = ap slice_fault (fault_from_Part 2 bytes_fault p.values (values m) (omega arith) s.values (no_faults (values m)));
-    lists = held_fault by_bytes by_bytes (lists_read texts_to_bytes p) m held_of_map;
-  })
+  none_of_map : read_fault texts_to_bytes p ≡ None
+  none_of_map =
+      rw (
+        ap joiner_fault s.joiner ∙ written_fault (ends m) ends_fit,
+        ap slice_fault (fault_from_Part 2 text_fault p.keys0 (firsts m) (omega arith) s.keys0 t.texts0),
+        ap slice_fault (fault_from_Part 2 text_fault p.keys1 (seconds m) (omega arith) s.keys1 t.texts1),
+        ap slice_fault (fault_from_Part 2 bytes_fault p.values (values m) (omega arith) s.values (no_faults (values m))),
+      )
+      (held_fault by_bytes by_bytes (lists_read texts_to_bytes p) m held_of_map)
 
-  pub rows_of_map : rows_read texts_to_bytes p ≡ m
-  rows_of_map = let f = held_of_map.flat in view_of _ _ _ _ m f
+  rows_of_map : rows_read texts_to_bytes p ≡ m
+  rows_of_map = view_of _ _ _ _ m held_of_map.0
 
 -- ---- images
 
--- an image that is read stands for the rows of its parts
-stands_parts : (image : List ℕ) (p : Parts) → IsBytes image → unframe image ≡ Some p → read_fault texts_to_bytes p ≡ None →
-    Stands image (rows_read texts_to_bytes p)
-stands_parts image p bytes e none =
-    let b = frame-unframe image p bytes e in
-    subst (λ (z : List ℕ). Stands z (rows_read texts_to_bytes p)) (sym b.0) (parts_stand p b.1 none)
-
-pub stands_from_none : (image : List ℕ) → IsBytes image → fault image ≡ None → (m : Rows) × Stands image m
-stands_from_none image bytes none =
-    let by : (o : Option Parts) → unframe image ≡ o → (m : Rows) × Stands image m = elim [
-      | None ↦ λ e. let k : Some Frame ≡ None = sym (ap fault_of e) ∙ none in cc
-      | Some p ↦ λ e. (rows_read texts_to_bytes p, stands_parts image p bytes e (sym (ap fault_of e) ∙ none))
+-- bytes are no frame, or the frame of parts
+by_frame : (image : List ℕ) → IsBytes image → (P : Option Parts → Type 0) → P None → ((p : Parts) → image ≡ frame p → AreBytes p → P (Some p)) →
+    P (unframe image)
+by_frame image bytes P none some =
+    let by : (o : Option Parts) → unframe image ≡ o → P o = elim [
+      | None ↦ λ e. none
+      | Some p ↦ λ e. let k = frame-unframe image p bytes e in some p k.0 k.1
     ] in
     by (unframe image) refl
 
@@ -171,65 +179,49 @@ read_back image p l h = ap unframe h ∙ unframe-frame p (subst (λ (b : List �
 pub none_from_stands : (image : List ℕ) (m : Rows) → length image < 2 ^ 64 → Stands image m → fault image ≡ None
 none_from_stands image m l s = ap fault_of (read_back image s.parts l s.formed) ∙ none_of_map s.parts m s.spelled s.map
 
-pub one_map : (image : List ℕ) (m n : Rows) → length image < 2 ^ 64 → Stands image m → Stands image n → m ≡ n
+pub read_exactly : IsReadExactly
+read_exactly image bytes l = (
+  by_frame image bytes (λ o. fault_of o ≡ None → (m : Rows) × Stands image m) (λ e. cc) (λ p h k e. (rows_read texts_to_bytes p, parts_stand image p h k e)),
+  λ s. none_from_stands image s.0 l s.1,
+)
+
+pub one_map : StandsForOne
 one_map image m n l s t =
-    let same : Some s.parts ≡ Some t.parts = sym (read_back image s.parts l s.formed) ∙ read_back image t.parts l t.formed in
-    let parts : s.parts ≡ t.parts = cc in
-    sym (rows_of_map s.parts m s.spelled s.map) ∙ (ap (rows_read texts_to_bytes) parts ∙ rows_of_map t.parts n t.spelled t.map)
+    let same = same_Some s.parts t.parts (sym (read_back image s.parts l s.formed) ∙ read_back image t.parts l t.formed) in
+    sym (rows_of_map s.parts m s.spelled s.map) ∙ (ap (rows_read texts_to_bytes) same ∙ rows_of_map t.parts n t.spelled t.map)
 
 -- the canonical image
 part_enc : (xs : List Bytes) → codable 2 xs ≡ true → Part 2 (enc 2 xs) xs
 part_enc [] c = inl refl
 part_enc (x ∷ xs) c = (c, refl)
 
-pub canon_stands : (m : Rows) → IsTextMap m → IsCodable m → Stands (canon m) m
+pub canon_stands : CanonStands
 canon_stands m t c = record {
   map = t;
   parts = spelling m;
   formed = refl;
-  spelled = record {
-    keys0 = part_enc (firsts m) c.keys0;
-    joiner = refl;
-    keys1 = part_enc (seconds m) c.keys1;
-    values = part_enc (values m) c.values;
-  };
+  spelled = record { keys0 = part_enc _ c.keys0; joiner = refl; keys1 = part_enc _ c.keys1; values = part_enc _ c.values };
 }
 
 -- what reading the parts of an image gives
-pub parsed_stands : (image : List ℕ) (p : Parts) (r : Result Map2d EditError) → IsBytes image → Some p ≡ unframe image →
-    result_err r ≡ read_fault texts_to_bytes p → IfOk r (λ m. m.rows ≡ rows_read texts_to_bytes p) → IfOk r (λ m. Stands image m.rows)
-parsed_stands image p (Ok m) bytes e none same = subst (Stands image) (sym same) (stands_parts image p bytes (sym e) (sym none))
-parsed_stands image p (Err x) bytes e none same = tt
+module _ (image : List ℕ) (p : Parts) (bytes : IsBytes image) (e : Some p ≡ unframe image) where
+  pub parsed_stands : (r : Result Map2d EditError) → result_err r ≡ read_fault texts_to_bytes p → IfOk r (λ m. m.rows ≡ rows_read texts_to_bytes p) →
+      IfOk r (λ m. Stands image m.rows)
+  parsed_stands (Ok m) none same =
+      let k = frame-unframe image p bytes (sym e) in subst (Stands image) (sym same) (parts_stand image p k.0 k.1 (sym none))
+  parsed_stands (Err x) none same = tt
 
-pub parsed_frame : (image : List ℕ) (p : Parts) (r : Result Map2d EditError) → IsBytes image → Some p ≡ unframe image →
-    IfOk r (λ m. parts_of m ≡ p) → IfOk r (λ m. image ≡ frame (parts_of m))
-parsed_frame image p (Ok m) bytes e same = (frame-unframe image p bytes (sym e)).0 ∙ ap frame (sym same)
-parsed_frame image p (Err x) bytes e same = tt
+  pub parsed_frame : (r : Result Map2d EditError) → IfOk r (λ m. parts_of m ≡ p) → IfOk r (λ m. image ≡ frame (parts_of m))
+  parsed_frame (Ok m) same = (frame-unframe image p bytes (sym e)).0 ∙ ap frame (sym same)
+  parsed_frame (Err x) same = tt
 
 -- ---- images that are no frame
 
--- a cause that no part has lies in the lists, and none there is the frame's
-after_part : (o : Option UleError) (rest : Option EditError) → part_or o rest ≡ Some Frame → rest ≡ Some Frame
-after_part None rest e = e
-after_part (Some u) rest e = cc
+parts_not_frame : (r : Readings) (p : Parts) → read_fault r p ≡ Some EditError.Frame → ⊥
+parts_not_frame r p e = grind (arith, nat_tests)
 
-lists_not_frame : (o0 o1 : Bytes → Bytes → Ordering) (l : Lists) → lists_fault o0 o1 l ≡ Some Frame → ⊥
-lists_not_frame o0 o1 l e = grind (arith, nat_tests)
-
-parts_not_frame : (r : Readings) (p : Parts) → read_fault r p ≡ Some Frame → ⊥
-parts_not_frame r p e =
-    let a = after_part (joiner_fault p.joiner) _ e in
-    let b = after_part (r.keys0.fault p.keys0) _ a in
-    let c = after_part (r.keys1.fault p.keys1) _ b in
-    lists_not_frame r.order0 r.order1 (lists_read r p) (after_part (r.values.fault p.values) _ c)
-
-pub frame_only : (image : List ℕ) → length image < 2 ^ 64 → fault image ≡ Some Frame → (p : Parts) → image ≡ frame p → ⊥
-frame_only image l e p h = parts_not_frame texts_to_bytes p (sym (ap fault_of (read_back image p l h)) ∙ e)
-
-pub no_frame : (image : List ℕ) → IsBytes image → ((p : Parts) → image ≡ frame p → ⊥) → fault image ≡ Some Frame
-no_frame image bytes none =
-    let by : (o : Option Parts) → unframe image ≡ o → fault image ≡ Some Frame = elim [
-      | None ↦ λ e. ap fault_of e
-      | Some p ↦ λ e. absurd (none p (frame-unframe image p bytes e).0)
-    ] in
-    by (unframe image) refl
+pub frame_exactly : FrameExactly
+frame_exactly image bytes l = (
+  λ e p h. parts_not_frame texts_to_bytes p (sym (ap fault_of (read_back image p l h)) ∙ e),
+  λ none. by_frame image bytes (λ o. fault_of o ≡ Some EditError.Frame) refl (λ p h k. absurd (none p h)),
+)

@@ -1,6 +1,5 @@
 -- Changes keep a map well formed.
-use Rattle.std.proofs.Common.{◌≡◌, ℕ, ◌<◌, ◌≤◌, Bool, true, false, cond, List, [], ◌∷◌, ◌++◌, length, Option, Some, None, Result, Ok, Err, OnOk, OnErr, refl}
-use Rattle.std.proofs.Common.{sym, ◌∙◌, ap, subst, arith}
+use Rattle.std.proofs.Common.{◌≡◌, ◌<◌, List, [], ◌∷◌, length, Option, Some, None, arith}
 use Rattle.std.proofs.lemmas.List.Elements.{All-from_recursion}
 use Rattle.std.proofs.lemmas.Map.Views.{IfSome-lookup_from_All}
 use Rattle.std.specs.BTreeMap.{is_at}
@@ -12,20 +11,17 @@ use Rattle.std.specs.Ordering.{match_ordering}
 use Rattle.std.specs.declared.cmp.Ordering.{Ordering}
 use Rattle.std.specs.declared.cmp.Ordering.TheVariants.{Less, Equal, Greater}
 use Rattle.zv_map.proofs.Places.{IsMap-insert_entry, IsMap-without_key, values_with, values_without}
-use Rattle.zv_map.specs.Maps.{IsMap, keys_of, values_of, look_up, insert_entry, without_key}
+use Rattle.zv_map.specs.Maps.{IsMap, values_of, look_up, insert_entry}
 use Rattle.zv_map2d.specs.Keys.{Bytes}
-use Rattle.zv_map2d.specs.Refusals.{RefusedUnless}
-use Rattle.zv_map2d.specs.Views.{Map2d}
-use Rattle.zv_map2d.specs.declared.error.Map2dError.{Map2dError}
-use Rattle.zv_map2d.specs.Rows.{Rows, IsRow, IsWell, row, put, with_row, del}
+use Rattle.zv_map2d.specs.Rows.{Rows, IsWell, row, put, with_row, del}
 
-module _ {K X : Type 0} (Q : X → Type 0) where
+module _ {X : Type 0} (Q : X → Type 0) where
   -- what holds of what each entry has holds of the values, and back
-  pub values_all : (m : List (K × X)) → AllByRecursion (λ e. Q e.1) m → AllByRecursion Q (values_of m)
-  values_all [] all = tt
-  values_all (e ∷ m) all = (all.0, values_all m all.1)
+  values_all : {P : Bytes × X → Type 0} → ((e : Bytes × X) → P e → Q e.1) → (m : List (Bytes × X)) → AllByRecursion P m → AllByRecursion Q (values_of m)
+  values_all f [] all = tt
+  values_all f (e ∷ m) all = (f e all.0, values_all f m all.1)
 
-  pub all_values : (m : List (K × X)) → AllByRecursion Q (values_of m) → AllByRecursion (λ e. Q e.1) m
+  all_values : (m : List (Bytes × X)) → AllByRecursion Q (values_of m) → AllByRecursion (λ e. Q e.1) m
   all_values [] all = tt
   all_values (e ∷ m) all = (all.0, all_values m all.1)
 
@@ -44,28 +40,24 @@ insert_entry_some order (e ∷ m) k x =
     elim [ Less ↦ omega arith | Equal ↦ omega arith | Greater ↦ omega arith ] in
     by (order k e.0)
 
-module _ {order0 order1 : Bytes → Bytes →
-    Ordering} (total0 : IsTotalOrder order0) (total1 : IsTotalOrder order1) (m : Rows) (k0 : Bytes) (well : IsWell order0 order1 m) where
+module _ {order0 order1 : Bytes → Bytes → Ordering} (total0 : IsTotalOrder order0) (total1 : IsTotalOrder order1) (m : Rows) (k0 : Bytes)
+    (well : IsWell order0 order1 m) where
   abbrev IsFull : List (Bytes × Bytes) → Type 0
   IsFull r = (0 < length r) × IsMap order1 r
 
   -- the row of a key is ordered, be it empty
   pub row_ordered : IsMap order1 (row order0 m k0)
   unfolding IsStrictlySortedBy
-  row_ordered = row_holds order0 (IsMap order1) m k0 (maps m well.1) tt
-    where
-      maps : (n : Rows) → AllByRecursion (IsRow order1) n → AllByRecursion (IsMap order1) (values_of n)
-      maps [] all = tt
-      maps (r ∷ n) all = (all.0.1, maps n all.1)
+  row_ordered = row_holds order0 (IsMap order1) m k0 (values_all (IsMap order1) (λ r h. h.1) m well.1) tt
+
+  full_rows : AllByRecursion IsFull (values_of m)
+  full_rows = values_all IsFull (λ r h. h) m well.1
 
   insert_row : (r : List (Bytes × Bytes)) → 0 < length r → IsMap order1 r → IsWell order0 order1 (insert_entry order0 m k0 r)
-  insert_row r some up = (
-    IsMap-insert_entry total0 m k0 r well.0,
-    all_values IsFull _ (values_with order0 m k0 IsFull r (some, up) (values_all IsFull m well.1)),
-  )
+  insert_row r some up = (IsMap-insert_entry total0 m k0 r well.0, all_values IsFull _ (values_with order0 m k0 IsFull r (some, up) full_rows))
 
   with_row_well : (r : List (Bytes × Bytes)) → IsMap order1 r → IsWell order0 order1 (with_row order0 m k0 r)
-  with_row_well [] up = (IsMap-without_key total0 m k0 well.0, all_values IsFull _ (values_without order0 m k0 IsFull (values_all IsFull m well.1)))
+  with_row_well [] up = (IsMap-without_key total0 m k0 well.0, all_values IsFull _ (values_without order0 m k0 IsFull full_rows))
   with_row_well (p ∷ r) up = insert_row (p ∷ r) (omega arith) up
 
   pub put_well : (k1 v : Bytes) → IsWell order0 order1 (put order0 order1 m k0 k1 v)
@@ -78,20 +70,3 @@ module _ {order0 order1 : Bytes → Bytes →
 pub none_well : (order0 order1 : Bytes → Bytes → Ordering) {m : Rows} → m ≡ [] → IsWell order0 order1 m
 unfolding IsStrictlySortedBy
 none_well order0 order1 e = rw e (tt, tt)
-
--- ---- after a try to change a map
-
--- it leaves these rows
-pub leaves : {A E : Type 0} (n : Rows) {m z : Rows} (r : Result A E) → OnOk r (n ≡ m) → m ≡ z → OnOk r (n ≡ z)
-leaves n r ok same = subst (λ (z : Rows). OnOk r (n ≡ z)) same ok
-
--- and is well formed
-pub still_well : (order0 order1 : Bytes → Bytes → Ordering) {A E : Type 0} (new old : Map2d) (m : Rows) (r : Result A E) → OnOk r (new.rows ≡ m) →
-    OnErr r (new ≡ old) → IsWell order0 order1 m → IsWell order0 order1 old.rows → IsWell order0 order1 new.rows
-still_well order0 order1 new old m (Ok x) ok err well before = subst (IsWell order0 order1) (sym ok) well
-still_well order0 order1 new old m (Err x) ok err well before = subst (λ (v : Map2d). IsWell order0 order1 v.rows) (sym err) before
-
--- a refusal by tests of the same answers
-pub refused_by : {A : Type 0} {fits fits2 full full2 : Bool} → fits2 ≡ fits → full2 ≡ full → (r : Result A Map2dError) →
-    RefusedUnless fits full r → RefusedUnless fits2 full2 r
-refused_by a b r h = rw (a, b) h

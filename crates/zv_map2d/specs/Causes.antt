@@ -1,19 +1,17 @@
 -- Why four parts are no map: the causes in their order.
 use Rattle.std.specs.Prelude.{ℕ, ◌==◌, not, Bool, true, false, ◌&&◌, nat_lt, List, [], ◌∷◌, length}
-use Rattle.std.specs.Prelude.{slice_range, Option, Some, None, if◌then◌else◌}
+use Rattle.std.specs.Prelude.{Option, Some, None, is_none, option_map, unwrap_or, if◌then◌else◌}
 use Rattle.std.specs.Int.{w32, from_le_bytes}
 use Rattle.std.specs.List.{list_all}
-use Rattle.std.specs.declared.cmp.Ordering.{Ordering}
+use Rattle.std.specs.Option.{option_or}
 use Rattle.zv_ule.specs.Chunks.{chunks_fault, values_of}
-use Rattle.zv_ule.specs.declared.error.TyName.TheVariants.{RawBytes4}
+use Rattle.zv_ule.specs.declared.error.TyName.{TyName}
 use Rattle.zv_ule.specs.declared.error.UleError.{UleError}
-use Rattle.zv_map2d.specs.Keys.{Bytes, ascends}
-use Rattle.zv_map2d.specs.Rows.{Rows, rows_from}
+use Rattle.zv_var.specs.Format.{pieces}
+use Rattle.zv_map2d.specs.Keys.{Bytes, Order, ascends}
+use Rattle.zv_map2d.specs.Rows.{Rows, rows_of}
 use Rattle.zv_map2d.specs.Frame.{Parts}
 use Rattle.zv_map2d.specs.declared.error.EditError.{EditError}
-use Rattle.zv_map2d.specs.declared.error.EditError.TheVariants.{Frame, Ule, Keys0Joiner}
-use Rattle.zv_map2d.specs.declared.error.EditError.TheVariants.{Keys1Values, JoinerOrder}
-use Rattle.zv_map2d.specs.declared.error.EditError.TheVariants.{JoinerEnd, KeyOrder, Memory, Write}
 
 -- ---- what parts are read as
 
@@ -27,20 +25,19 @@ pub record Readings : Type 0 where
   pub keys0 : Reading
   pub keys1 : Reading
   pub values : Reading
-  pub order0 : Bytes → Bytes → Ordering
-  pub order1 : Bytes → Bytes → Ordering
+  pub order0 : Order
+  pub order1 : Order
 
 abbrev pub reading : (Bytes → Option UleError) → (Bytes → List Bytes) → Reading
 reading fault list = record { fault = fault; list = list }
 
-abbrev pub readings :
-    Reading → Reading → Reading → (Bytes → Bytes → Ordering) → (Bytes → Bytes → Ordering) → Readings
+abbrev pub readings : Reading → Reading → Reading → Order → Order → Readings
 readings keys0 keys1 values order0 order1 =
     record { keys0 = keys0; keys1 = keys1; values = values; order0 = order0; order1 = order1 }
 
 -- the error of a joiner that is no list of numbers of four bytes
 abbrev pub joiner_fault : List ℕ → Option UleError
-joiner_fault joiner = chunks_fault RawBytes4 4 (λ chunk. None) joiner
+joiner_fault joiner = chunks_fault TyName.RawBytes4 4 (λ chunk. None) joiner
 
 -- the numbers of a joiner
 abbrev pub numbers : List ℕ → List ℕ
@@ -62,80 +59,56 @@ lists_read r p = record {
   values = r.values.list p.values;
 }
 
--- the map that lists stand for
-abbrev pub rows_of_lists : Lists → Rows
-rows_of_lists l = rows_from 0 l.keys0 l.joiner l.keys1 l.values
-
 -- the map that parts are read as
 abbrev pub rows_read : Readings → Parts → Rows
-rows_read r p = rows_of_lists (lists_read r p)
+rows_read r p = rows_of (r.keys0.list p.keys0) (numbers p.joiner) (r.keys1.list p.keys1)
+    (r.values.list p.values)
 
 -- ---- the tests
 
--- each number is above the one before, the first above n
-abbrev pub climbs : ℕ → List ℕ → Bool
-climbs n [] = true
-climbs n (e ∷ es) = nat_lt n e && climbs e es
-
--- the last number, or n where there is none
-abbrev pub last_of : ℕ → List ℕ → ℕ
-last_of n [] = n
-last_of n (e ∷ es) = last_of e es
-
--- the stretches of a list that end at es, the first from n
-abbrev pub stretches : {A : Type 0} → ℕ → List ℕ → List A → List (List A)
-stretches n [] xs = []
-stretches n (e ∷ es) xs = slice_range xs n e ∷ stretches e es xs
+-- the last number, or n where there is none, if each is above the one before, the first above n
+abbrev pub last_ascending : ℕ → List ℕ → Option ℕ
+last_ascending n [] = Some n
+last_ascending n (e ∷ es) = if nat_lt n e then last_ascending e es else None
 
 -- the first keys ascend, and the second keys of each row
-abbrev pub keys_ascend : (Bytes → Bytes → Ordering) → (Bytes → Bytes → Ordering) → Lists → Bool
+abbrev pub keys_ascend : Order → Order → Lists → Bool
 keys_ascend order0 order1 l =
-    ascends order0 l.keys0 && list_all (ascends order1) (stretches 0 l.joiner l.keys1)
+    ascends order0 l.keys0 && list_all (ascends order1) (pieces l.keys1 0 l.joiner)
 
 -- ---- the causes
-
--- the first cause whose test holds
-abbrev pub first_cause : List (Bool × EditError) → Option EditError
-first_cause [] = None
-first_cause (c ∷ cs) = if c.0 then Some c.1 else first_cause cs
 
 -- why lists are those of no map: first keys and ends are not as many; nor are second keys and
 -- values; the ends don't ascend from above 0; the last isn't the number of second keys; keys don't
 -- ascend
-abbrev pub lists_fault :
-    (Bytes → Bytes → Ordering) → (Bytes → Bytes → Ordering) → Lists → Option EditError
-lists_fault order0 order1 l = first_cause (
-    (not (length l.keys0 == length l.joiner), Keys0Joiner)
-    ∷ (not (length l.keys1 == length l.values), Keys1Values)
-    ∷ (not (climbs 0 l.joiner), JoinerOrder)
-    ∷ (not (last_of 0 l.joiner == length l.keys1), JoinerEnd)
-    ∷ (not (keys_ascend order0 order1 l), KeyOrder)
-    ∷ [])
-
--- a part's own error, else what follows
-abbrev pub part_or : Option UleError → Option EditError → Option EditError
-part_or None rest = rest
-part_or (Some e) rest = Some (Ule e)
+abbrev pub lists_fault : Order → Order → Lists → Option EditError
+lists_fault order0 order1 l =
+    if not (length l.keys0 == length l.joiner) then Some EditError.Keys0Joiner
+    else (if not (length l.keys1 == length l.values) then Some EditError.Keys1Values
+    else (if is_none (last_ascending 0 l.joiner) then Some EditError.JoinerOrder
+    else (if not (unwrap_or (last_ascending 0 l.joiner) 0 == length l.keys1)
+    then Some EditError.JoinerEnd
+    else (if not (keys_ascend order0 order1 l) then Some EditError.KeyOrder
+    else None))))
 
 -- why parts are those of no map: the joiner's own error, then that of another part in their order,
 -- then the first cause that lies in the lists
 abbrev pub read_fault : Readings → Parts → Option EditError
-read_fault r p =
-    part_or (joiner_fault p.joiner)
-    (part_or (r.keys0.fault p.keys0)
-    (part_or (r.keys1.fault p.keys1)
-    (part_or (r.values.fault p.values)
+read_fault r p = option_or (option_map EditError.Ule (joiner_fault p.joiner))
+    (option_or (option_map EditError.Ule (r.keys0.fault p.keys0))
+    (option_or (option_map EditError.Ule (r.keys1.fault p.keys1))
+    (option_or (option_map EditError.Ule (r.values.fault p.values))
     (lists_fault r.order0 r.order1 (lists_read r p)))))
 
 -- ---- errors
 
 -- whether an error lies in the image, and neither in memory nor in a sink
 abbrev pub is_cause : EditError → Bool
-is_cause Memory = false
-is_cause Write = false
+is_cause EditError.Memory = false
+is_cause EditError.Write = false
 is_cause e = true
 
 -- whether an error lies in the parts of an image
 abbrev pub is_parts_cause : EditError → Bool
-is_parts_cause Frame = false
+is_parts_cause EditError.Frame = false
 is_parts_cause e = is_cause e

@@ -1,5 +1,5 @@
 -- Which new values a map takes, by the size rules of its lists.
-use Rattle.std.specs.Prelude.{ℕ, ◌+◌, Bool, ◌&&◌, List, length, Option, Some, None}
+use Rattle.std.specs.Prelude.{◌≡◌, ℕ, ◌+◌, Bool, true, ◌&&◌, List, length, Option, Some, None}
 use Rattle.std.specs.declared.cmp.Ordering.{Ordering}
 use Rattle.zv_owned.specs.Size.{takes_insert, takes_replace}
 use Rattle.zv_map2d.specs.Keys.{Bytes, nth}
@@ -14,6 +14,16 @@ pub record Rule : Type 0 where
   pub takes1 : List Bytes → ℕ → Bool
   pub takes2 : List Bytes → ℕ → Bool
   pub replaces : List Bytes → ℕ → ℕ → Bool
+
+-- the rule of these
+abbrev pub rule_of : (List Bytes → ℕ → Bool) → (List Bytes → ℕ → Bool) → (List Bytes → ℕ → Bool) →
+    (List Bytes → ℕ → ℕ → Bool) → Rule
+rule_of takes0 takes1 takes2 replaces =
+    record { takes0 = takes0; takes1 = takes1; takes2 = takes2; replaces = replaces }
+
+-- a list takes one element more, of so many bytes
+pub record IsTaken (takes : List Bytes → ℕ → Bool) (xs : List Bytes) (n : ℕ) : Type 0 where
+  pub taken : takes xs n ≡ true
 
 -- where the value of the pair of keys stands, or would stand, among the values
 abbrev pub place :

@@ -4,29 +4,27 @@ use Rattle.std.specs.Prelude.{◌≡◌, ℕ, List, Option, Some, None, flat_map
 use Rattle.std.specs.Cmp.Lexicographic.{slice_cmp}
 use Rattle.std.specs.List.{AllByRecursion}
 use Rattle.std.specs.Ordering.{nat_cmp}
-use Rattle.std.specs.declared.cmp.Ordering.{Ordering}
 use Rattle.zv_ule.specs.Bytes.{le}
 use Rattle.zv_ule.specs.Chunks.{chunks_fault}
 use Rattle.zv_ule.specs.Kinds.{text_fault}
-use Rattle.zv_ule.specs.declared.error.TyName.TheVariants.{U8}
+use Rattle.zv_ule.specs.declared.error.TyName.{TyName}
 use Rattle.zv_ule.specs.declared.error.UleError.{UleError}
 use Rattle.zv_var.specs.Format.{enc, elements, list_fault, Part}
 use Rattle.zv_var.specs.Nested.{slice_fault}
-use Rattle.zv_map2d.specs.Keys.{Bytes}
+use Rattle.zv_map2d.specs.Keys.{Bytes, Order}
 use Rattle.zv_map2d.specs.Rows.{Rows, firsts, seconds, values, ends, IsWell}
 use Rattle.zv_map2d.specs.Frame.{Parts, frame, unframe}
 use Rattle.zv_map2d.specs.Causes.{Reading, Readings, reading, readings, read_fault}
 use Rattle.zv_map2d.specs.Views.{written_parts}
 use Rattle.zv_map2d.specs.declared.error.EditError.{EditError}
-use Rattle.zv_map2d.specs.declared.error.EditError.TheVariants.{Frame}
 
 -- byte strings by their first difference, a prefix being below
-abbrev pub by_bytes : Bytes → Bytes → Ordering
+abbrev pub by_bytes : Order
 by_bytes = slice_cmp nat_cmp
 
 -- the error of bytes that are to be a slice of bytes: none
 abbrev pub bytes_fault : Bytes → Option UleError
-bytes_fault = chunks_fault U8 1 (λ b. None)
+bytes_fault = chunks_fault TyName.U8 1 (λ b. None)
 
 -- how a list with fields of two bytes is read, of elements for which `fault` has no error
 abbrev pub var_list : (Bytes → Option UleError) → Reading
@@ -63,7 +61,7 @@ pub record Stands (image : List ℕ) (m : Rows) : Type 0 where
 
 -- why an image with these parts is refused, or one that is no frame
 abbrev pub fault_of : Option Parts → Option EditError
-fault_of None = Some Frame
+fault_of None = Some EditError.Frame
 fault_of (Some p) = read_fault texts_to_bytes p
 
 -- why an image is refused

@@ -8,7 +8,7 @@ use Rattle.zv_map2d.specs.Rows.{Rows, firsts, seconds, values, IsWell, put, del}
 use Rattle.zv_map2d.specs.Frame.{Parts, frame}
 use Rattle.zv_map2d.specs.Image.{IsTextMap, Stands, by_bytes, fault, canon}
 use Rattle.zv_map2d.specs.Fits.{fits, texts_rule, fits_texts}
-use Rattle.zv_map2d.specs.declared.error.EditError.TheVariants.{Frame}
+use Rattle.zv_map2d.specs.declared.error.EditError.{EditError}
 
 -- an image has no fault exactly where it stands for a map
 abbrev pub IsReadExactly : Type 0
@@ -37,7 +37,7 @@ OneImage = (image : List ℕ) (m : Rows) → Stands image m → (m ≡ [] → �
 -- an image is no frame exactly where no parts make it
 abbrev pub FrameExactly : Type 0
 FrameExactly = (image : List ℕ) → IsBytes image → length image < 2 ^ 64 →
-    (fault image ≡ Some Frame) ↔ ((p : Parts) → image ≡ frame p → ⊥)
+    (fault image ≡ Some EditError.Frame) ↔ ((p : Parts) → image ≡ frame p → ⊥)
 
 -- the canonical image of a map that can be written has no fault, and stands for no other map
 abbrev pub CanonAgain : Type 0

@@ -9,6 +9,7 @@ pub mod Iters
 pub mod Keys
 pub mod Laws
 pub mod Locales
+pub mod Outcomes
 pub mod Refusals
 pub mod Rows
 pub mod Views

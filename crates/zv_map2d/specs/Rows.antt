@@ -4,9 +4,9 @@ use Rattle.std.specs.Prelude.{Option, flat_map, slice_index_or, unwrap_or, zip}
 use Rattle.std.specs.BTreeMap.{is_at}
 use Rattle.std.specs.List.{AllByRecursion}
 use Rattle.std.specs.Map.{lookup_entry}
-use Rattle.std.specs.declared.cmp.Ordering.{Ordering}
 use Rattle.zv_map.specs.Maps.{IsMap, keys_of, values_of, look_up, insert_entry, without_key}
-use Rattle.zv_map2d.specs.Keys.{Bytes}
+use Rattle.zv_var.specs.Format.{pieces}
+use Rattle.zv_map2d.specs.Keys.{Bytes, Order}
 
 -- a map: for each first key its pairs of a second key and a value
 abbrev pub Rows : Type 0
@@ -34,50 +34,41 @@ abbrev pub ends : Rows → List ℕ
 ends m = ends_from 0 m
 
 -- a row that isn't empty, with ascending keys
-abbrev pub IsRow : (Bytes → Bytes → Ordering) → (Bytes × List (Bytes × Bytes)) → Type 0
+abbrev pub IsRow : Order → (Bytes × List (Bytes × Bytes)) → Type 0
 IsRow order r = (0 < length r.1) × IsMap order r.1
 
 -- first keys ascend, no row is empty, second keys ascend in each row
-abbrev pub IsWell : (Bytes → Bytes → Ordering) → (Bytes → Bytes → Ordering) → Rows → Type 0
+abbrev pub IsWell : Order → Order → Rows → Type 0
 IsWell order0 order1 m = IsMap order0 m × AllByRecursion (IsRow order1) m
 
 -- the first key's row, which is empty where there is none
-abbrev pub row : (Bytes → Bytes → Ordering) → Rows → Bytes → List (Bytes × Bytes)
+abbrev pub row : Order → Rows → Bytes → List (Bytes × Bytes)
 row order m k0 = unwrap_or (look_up order m k0) []
 
 -- the first key's row with the key that it has in the map
-abbrev pub row_of :
-    (Bytes → Bytes → Ordering) → Rows → Bytes → Option (Bytes × List (Bytes × Bytes))
+abbrev pub row_of : Order → Rows → Bytes → Option (Bytes × List (Bytes × Bytes))
 row_of order m k0 = lookup_entry (is_at (order k0)) m
 
 -- the value of the pair of keys
-abbrev pub find :
-    (Bytes → Bytes → Ordering) → (Bytes → Bytes → Ordering) → Rows → Bytes → Bytes → Option Bytes
+abbrev pub find : Order → Order → Rows → Bytes → Bytes → Option Bytes
 find order0 order1 m k0 k1 = look_up order1 (row order0 m k0) k1
 
 -- v for the pair of keys, whose row is made where it is missing
-abbrev pub put :
-    (Bytes → Bytes → Ordering) → (Bytes → Bytes → Ordering) → Rows → Bytes → Bytes → Bytes → Rows
+abbrev pub put : Order → Order → Rows → Bytes → Bytes → Bytes → Rows
 put order0 order1 m k0 k1 v = insert_entry order0 m k0 (insert_entry order1 (row order0 m k0) k1 v)
 
 -- the row r for k0, or no row where r is empty
-abbrev pub with_row :
-    (Bytes → Bytes → Ordering) → Rows → Bytes → List (Bytes × Bytes) → Rows
+abbrev pub with_row : Order → Rows → Bytes → List (Bytes × Bytes) → Rows
 with_row order m k0 [] = without_key order m k0
 with_row order m k0 (p ∷ r) = insert_entry order m k0 (p ∷ r)
 
 -- without the pair of keys, and without its row where that was its only pair
-abbrev pub del :
-    (Bytes → Bytes → Ordering) → (Bytes → Bytes → Ordering) → Rows → Bytes → Bytes → Rows
+abbrev pub del : Order → Order → Rows → Bytes → Bytes → Rows
 del order0 order1 m k0 k1 = with_row order0 m k0 (without_key order1 (row order0 m k0) k1)
 
--- the rows that four lists stand for, the ends being counted from n
-abbrev pub rows_from : ℕ → List Bytes → List ℕ → List Bytes → List Bytes → Rows
-rows_from n [] es k1s vs = []
-rows_from n (k ∷ k0s) [] k1s vs = []
-rows_from n (k ∷ k0s) (e ∷ es) k1s vs =
-    (k, zip (take (e - n) k1s) (take (e - n) vs))
-    ∷ rows_from e k0s es (drop (e - n) k1s) (drop (e - n) vs)
+-- the rows that four lists stand for: to each first key the pairs up to its end
+abbrev pub rows_of : List Bytes → List ℕ → List Bytes → List Bytes → Rows
+rows_of k0s es k1s vs = zip k0s (pieces (zip k1s vs) 0 es)
 
 -- four lists are those of the map
 pub record IsFlat (k0s : List Bytes) (es : List ℕ) (k1s vs : List Bytes) (m : Rows) : Type 0 where
@@ -98,6 +89,6 @@ before m i = size (take i m)
 abbrev pub row_at : Rows → ℕ → List (Bytes × Bytes)
 row_at m i = slice_index_or (values_of m) i []
 
--- the ends, from row i on, each moved by f
-abbrev pub shift_from : (ℕ → ℕ) → ℕ → List ℕ → List ℕ
-shift_from f i es = take i es ++ map f (drop i es)
+-- the ends, from row i on, each a more and b less
+abbrev pub shift_from : ℕ → ℕ → ℕ → List ℕ → List ℕ
+shift_from a b i es = take i es ++ map (λ e. e + a - b) (drop i es)

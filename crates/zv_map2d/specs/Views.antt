@@ -1,13 +1,11 @@
 -- What is seen of a map.
 use Rattle.std.specs.Prelude.{◌≡◌, ◌≤◌, ℕ, Bool, false, List, [], IsTrue, Option, None}
 use Rattle.std.specs.List.{flat_map}
-use Rattle.std.specs.declared.cmp.Ordering.{Ordering}
 use Rattle.zv_ule.specs.Bytes.{le}
 use Rattle.zv_ule.specs.declared.error.UleError.{UleError}
-use Rattle.zv_map2d.specs.Causes.{Lists}
 use Rattle.zv_map2d.specs.Frame.{Parts}
 use Rattle.zv_map2d.specs.Keys.{Bytes}
-use Rattle.zv_map2d.specs.Rows.{Rows, firsts, seconds, values, ends, rows_from, IsFlat, IsWell}
+use Rattle.zv_map2d.specs.Rows.{Rows, firsts, seconds, values, ends, rows_of, IsFlat}
 use Rattle.zv_map2d.specs.declared.parts.Parts.{Parts as PartsRead}
 
 -- one of a map's vectors: its bytes, by how many bytes it can grow without memory, whether it owns
@@ -55,8 +53,7 @@ bytes_of p = record {
 
 -- all vectors borrow their bytes
 abbrev pub IsBorrowed : Map2d → Type 0
-IsBorrowed m =
-    (m.keys0.owned ≡ false) × (m.joiner.owned ≡ false) × (m.keys1.owned ≡ false)
+IsBorrowed m = (m.keys0.owned ≡ false) × (m.joiner.owned ≡ false) × (m.keys1.owned ≡ false)
     × (m.values.owned ≡ false)
 
 -- bytes have no fault, and are read as the list
@@ -93,9 +90,4 @@ pub record AreColumns (usable0 usable1 usable2 : Bool) (k0s : List Bytes) (es : 
   pub keys0 : IsTrue usable0
   pub keys1 : IsTrue usable1
   pub values : IsTrue usable2
-  pub flat : IsFlat k0s es k1s vs (rows_from 0 k0s es k1s vs)
-
--- the lists are those of a map whose keys ascend
-pub record IsHeld (order0 order1 : Bytes → Bytes → Ordering) (l : Lists) (m : Rows) : Type 0 where
-  pub flat : IsFlat l.keys0 l.joiner l.keys1 l.values m
-  pub well : IsWell order0 order1 m
+  pub flat : IsFlat k0s es k1s vs (rows_of k0s es k1s vs)

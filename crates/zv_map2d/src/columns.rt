@@ -49,13 +49,13 @@ impl<
     C1: ZvContainer<K1>,
     D: ZvContainer<V>,
 > Model for Columns<'a, K0, K1, V, C0, C1, D> {
-    ghost use Rattle.zv_map2d.specs.Rows.{rows_from};
+    ghost use Rattle.zv_map2d.specs.Rows.{rows_of};
     ghost use Rattle.zv_map2d.specs.Views.{AreColumns, Map2d};
 
     ghost Value = { Map2d };
 
     ghost view = { λ m. record {
-      rows = rows_from 0 (C0.list m.keys0) m.joiner.values (C1.list m.keys1) (D.list m.values);
+      rows = rows_of (C0.list m.keys0) m.joiner.values (C1.list m.keys1) (D.list m.values);
       keys0 = record {
         bytes = C0.bytes m.keys0;
         spare = C0.spare m.keys0;

@@ -1,19 +1,17 @@
 // Changes of a map's four vectors.
-ghost use Rattle.std.specs.Prelude.{◌≡◌, ℕ, ◌+◌, ◌^◌, ◌<◌, ◌≤◌, ◌&&◌, Bool, false, true, List, []};
-ghost use Rattle.std.specs.Prelude.{◌∷◌, length};
-ghost use Rattle.std.specs.Prelude.{IfOk, OnErr, OnOk, Option, Some, None, is_none, option_map};
-ghost use Rattle.std.specs.Prelude.{set};
+ghost use Rattle.std.specs.Prelude.{◌≡◌, ◌+◌, ◌^◌, ◌<◌, ◌≤◌, ◌&&◌, false, true, [], ◌∷◌, length};
+ghost use Rattle.std.specs.Prelude.{IfOk, OnErr, OnOk, Some, None, option_map, set};
 ghost use Rattle.zv_map.specs.Maps.{set_value_at};
 ghost use Rattle.std.specs.List.{insert, remove};
+ghost use Rattle.zv_map2d.specs.Outcomes.{Changes, Dels, Inserts, Puts};
+ghost use Rattle.zv_map2d.specs.Fits.{IsTaken, rule_of};
 ghost use Rattle.zv_map2d.specs.Keys.{nth};
-ghost use Rattle.zv_map2d.specs.Fits.{Rule, fits};
 ghost use Rattle.zv_map2d.specs.Refusals.{RefusedUnless, is_full};
-ghost use Rattle.zv_map2d.specs.Rows.{IsWell, before, del, find, firsts, put, row_at};
-ghost use Rattle.zv_map2d.specs.Rows.{seconds, values};
+ghost use Rattle.zv_map2d.specs.Rows.{IsWell, before, firsts, row_at, seconds, values};
 
 use crate::columns::Columns;
 use crate::error::Map2dError;
-use crate::joiner::{lowered, lowered_without, raised, raised_with};
+use crate::joiner::{shifted_copy, with_end, without_end};
 use std::alloc::Global;
 use zv_map::{MapError, MutableZeroVecLike};
 use zv_ule::{NoMemory, ZvArg, ZvKind, ZvOrd, ZvOrdArg};
@@ -30,7 +28,7 @@ fn put_in<'a, K: ZvKind, C: MutableZeroVecLike<'a, K>, Q: ZvArg<K>>(
 ) -> Result<(), NoMemory>
     requires below { length (Q.bytes value.now) < 2 ^ 64 }
     requires place { index ≤ length (C.list list.old) }
-    requires taken { C.takes_insert (C.list list.old) (length (Q.bytes value.now)) ≡ true }
+    requires taken { IsTaken C.takes_insert (C.list list.old) (length (Q.bytes value.now)) }
     ensures ok { OnOk result (C.list list.new
         ≡ insert (C.list list.old) index (Q.bytes value.now)) }
     ensures err { OnErr result (list.new ≡ list.old) }
@@ -74,7 +72,7 @@ fn with_element<'a, K: ZvKind, C: MutableZeroVecLike<'a, K> + Drop, Q: ZvArg<K>>
 ) -> Result<C, NoMemory>
     requires below { length (Q.bytes value.now) < 2 ^ 64 }
     requires place { index ≤ length (C.list list.now) }
-    requires taken { C.takes_insert (C.list list.now) (length (Q.bytes value.now)) ≡ true }
+    requires taken { IsTaken C.takes_insert (C.list list.now) (length (Q.bytes value.now)) }
     ensures { IfOk result (λ c. C.list c ≡ insert (C.list list.now) index (Q.bytes value.now)) }
 {
     let mut copy = list.zvl_clone(alloc)?;
@@ -133,13 +131,12 @@ impl<
         requires row { row < length self.old.rows }
         requires pair { pair < length (row_at self.old.rows row) }
         requires value { length (R.bytes value.now) < 2 ^ 64 }
-        ensures rows { OnOk result (self.new.rows ≡ set_value_at self.old.rows row
-            (set_value_at (row_at self.old.rows row) pair (R.bytes value.now))) }
-        ensures before { IfOk result (λ old. option_map D.OwnedType.bytes old
-            ≡ Some (nth (values self.old.rows) (before self.old.rows row + pair))) }
-        ensures err { OnErr result (self.new ≡ self.old) }
-        ensures refused { RefusedUnless (D.takes_replace (values self.old.rows)
-            (before self.old.rows row + pair) (length (R.bytes value.now))) false result }
+        ensures { Inserts D.OwnedType.bytes self.old self.new
+            (set_value_at self.old.rows row
+            (set_value_at (row_at self.old.rows row) pair (R.bytes value.now)))
+            (Some (nth (values self.old.rows) (before self.old.rows row + pair)))
+            (D.takes_replace (values self.old.rows) (before self.old.rows row + pair)
+            (length (R.bytes value.now))) false result }
     {
         let at = self.pair_start(row, pair);
         replace_in(&mut self.values, alloc, at, value)
@@ -168,7 +165,7 @@ impl<
     {
         let at = self.pair_start(row, pair);
         let keys1 = with_element(&self.keys1, alloc, at, key1)?;
-        let joiner = raised(&self.joiner, alloc, row)?;
+        let joiner = shifted_copy(&self.joiner, alloc, row, 1, 0)?;
         put_in(&mut self.values, alloc, at, value)?;
         self.keys1 = keys1;
         self.joiner = joiner;
@@ -201,7 +198,7 @@ impl<
         let at = self.row_start(row);
         let keys0 = with_element(&self.keys0, alloc, row, key0)?;
         let keys1 = with_element(&self.keys1, alloc, at, key1)?;
-        let joiner = raised_with(&self.joiner, alloc, row, at as u32 + 1)?;
+        let joiner = with_end(&self.joiner, alloc, row, at as u32 + 1)?;
         put_in(&mut self.values, alloc, at, value)?;
         self.keys0 = keys0;
         self.keys1 = keys1;
@@ -222,11 +219,10 @@ impl<
         requires pair { pair ≤ length (row_at self.old.rows row) }
         requires key1 { length (Q1.bytes key1.now) < 2 ^ 64 }
         requires value { length (R.bytes value.now) < 2 ^ 64 }
-        ensures rows { OnOk result (self.new.rows ≡ set_value_at self.old.rows row
-            (insert (row_at self.old.rows row) pair (Q1.bytes key1.now, R.bytes value.now))) }
-        ensures before { IfOk result (λ old. option_map D.OwnedType.bytes old ≡ None) }
-        ensures err { OnErr result (self.new ≡ self.old) }
-        ensures refused { RefusedUnless
+        ensures { Inserts D.OwnedType.bytes self.old self.new
+            (set_value_at self.old.rows row
+            (insert (row_at self.old.rows row) pair (Q1.bytes key1.now, R.bytes value.now)))
+            None
             (C1.takes_insert (seconds self.old.rows) (length (Q1.bytes key1.now))
             && D.takes_insert (values self.old.rows) (length (R.bytes value.now)))
             (is_full self.old.rows) result }
@@ -254,11 +250,10 @@ impl<
         requires key0 { length (Q0.bytes key0.now) < 2 ^ 64 }
         requires key1 { length (Q1.bytes key1.now) < 2 ^ 64 }
         requires value { length (R.bytes value.now) < 2 ^ 64 }
-        ensures rows { OnOk result (self.new.rows ≡ insert self.old.rows row
-            (Q0.bytes key0.now, (Q1.bytes key1.now, R.bytes value.now) ∷ [])) }
-        ensures before { IfOk result (λ old. option_map D.OwnedType.bytes old ≡ None) }
-        ensures err { OnErr result (self.new ≡ self.old) }
-        ensures refused { RefusedUnless
+        ensures { Inserts D.OwnedType.bytes self.old self.new
+            (insert self.old.rows row
+            (Q0.bytes key0.now, (Q1.bytes key1.now, R.bytes value.now) ∷ []))
+            None
             (C0.takes_insert (firsts self.old.rows) (length (Q0.bytes key0.now))
             && (C1.takes_insert (seconds self.old.rows) (length (Q1.bytes key1.now))
             && D.takes_insert (values self.old.rows) (length (R.bytes value.now))))
@@ -280,42 +275,38 @@ impl<
         alloc: Global,
         row: usize,
         pair: usize,
-    ) -> Result<D::OwnedType, NoMemory>
+    ) -> Result<Option<D::OwnedType>, NoMemory>
         requires row { row < length self.old.rows }
         requires pair { pair < length (row_at self.old.rows row) }
-        ensures rows { OnOk result (self.new.rows
-            ≡ set_value_at self.old.rows row (remove (row_at self.old.rows row) pair)) }
-        ensures before { IfOk result (λ old.
-            D.OwnedType.bytes old ≡ nth (values self.old.rows) (before self.old.rows row + pair)) }
-        ensures err { OnErr result (self.new ≡ self.old) }
+        ensures { Changes D.OwnedType.bytes self.old self.new
+            (set_value_at self.old.rows row (remove (row_at self.old.rows row) pair))
+            (Some (nth (values self.old.rows) (before self.old.rows row + pair))) result }
     {
         let at = self.pair_start(row, pair);
         let keys1 = without_element(&self.keys1, alloc, at)?;
-        let joiner = lowered(&self.joiner, alloc, row)?;
+        let joiner = shifted_copy(&self.joiner, alloc, row, 0, 1)?;
         let old = self.values.zvl_remove(alloc, at)?;
         self.keys1 = keys1;
         self.joiner = joiner;
-        Ok(old)
+        Ok(Some(old))
     }
 
     /// Takes a row of one pair out, and gives back the pair's value.
-    fn remove_row(&mut self, alloc: Global, row: usize) -> Result<D::OwnedType, NoMemory>
+    fn remove_row(&mut self, alloc: Global, row: usize) -> Result<Option<D::OwnedType>, NoMemory>
         requires row { row < length self.old.rows }
         requires single { length (row_at self.old.rows row) ≡ 1 }
-        ensures rows { OnOk result (self.new.rows ≡ remove self.old.rows row) }
-        ensures before { IfOk result (λ old.
-            D.OwnedType.bytes old ≡ nth (values self.old.rows) (before self.old.rows row)) }
-        ensures err { OnErr result (self.new ≡ self.old) }
+        ensures { Changes D.OwnedType.bytes self.old self.new (remove self.old.rows row)
+            (Some (nth (values self.old.rows) (before self.old.rows row))) result }
     {
         let at = self.row_start(row);
         let keys0 = without_element(&self.keys0, alloc, row)?;
         let keys1 = without_element(&self.keys1, alloc, at)?;
-        let joiner = lowered_without(&self.joiner, alloc, row)?;
+        let joiner = without_end(&self.joiner, alloc, row)?;
         let old = self.values.zvl_remove(alloc, at)?;
         self.keys0 = keys0;
         self.keys1 = keys1;
         self.joiner = joiner;
-        Ok(old)
+        Ok(Some(old))
     }
 
     /// Gives a pair of keys a value, and gives back the value that it had.
@@ -330,23 +321,10 @@ impl<
         requires key0 { length (Q0.bytes key0.now) < 2 ^ 64 }
         requires key1 { length (Q1.bytes key1.now) < 2 ^ 64 }
         requires value { length (R.bytes value.now) < 2 ^ 64 }
-        ensures well { IsWell K0.cmp K1.cmp self.new.rows }
-        ensures rows { OnOk result (self.new.rows ≡ put K0.cmp K1.cmp self.old.rows
-            (Q0.bytes key0.now) (Q1.bytes key1.now) (R.bytes value.now)) }
-        ensures before { IfOk result (λ old. option_map D.OwnedType.bytes old
-            ≡ find K0.cmp K1.cmp self.old.rows (Q0.bytes key0.now) (Q1.bytes key1.now)) }
-        ensures err { OnErr result (self.new ≡ self.old) }
-        ensures refused { RefusedUnless
-            (fits
-            (record {
-              takes0 = C0.takes_insert;
-              takes1 = C1.takes_insert;
-              takes2 = D.takes_insert;
-              replaces = D.takes_replace;
-            }) K0.cmp K1.cmp self.old.rows
-            (Q0.bytes key0.now) (Q1.bytes key1.now) (R.bytes value.now))
-            (is_none (find K0.cmp K1.cmp self.old.rows (Q0.bytes key0.now) (Q1.bytes key1.now))
-            && is_full self.old.rows) result }
+        ensures { Puts D.OwnedType.bytes
+            (rule_of C0.takes_insert C1.takes_insert D.takes_insert D.takes_replace)
+            K0.cmp K1.cmp self.old self.new
+            (Q0.bytes key0.now) (Q1.bytes key1.now) (R.bytes value.now) result }
     {
         match self.row_place(key0) {
             Ok(row) => match self.pair_place(row, key1) {
@@ -368,12 +346,8 @@ impl<
         requires well { IsWell K0.cmp K1.cmp self.old.rows }
         requires key0 { length (Q0.bytes key0.now) < 2 ^ 64 }
         requires key1 { length (Q1.bytes key1.now) < 2 ^ 64 }
-        ensures well { IsWell K0.cmp K1.cmp self.new.rows }
-        ensures rows { OnOk result (self.new.rows
-            ≡ del K0.cmp K1.cmp self.old.rows (Q0.bytes key0.now) (Q1.bytes key1.now)) }
-        ensures before { IfOk result (λ old. option_map D.OwnedType.bytes old
-            ≡ find K0.cmp K1.cmp self.old.rows (Q0.bytes key0.now) (Q1.bytes key1.now)) }
-        ensures err { OnErr result (self.new ≡ self.old) }
+        ensures { Dels D.OwnedType.bytes K0.cmp K1.cmp self.old self.new
+            (Q0.bytes key0.now) (Q1.bytes key1.now) result }
     {
         let Ok(row) = self.row_place(key0) else {
             return Ok(None);
@@ -382,8 +356,8 @@ impl<
             return Ok(None);
         };
         if self.row_len(row) == 1 {
-            return Ok(Some(self.remove_row(alloc, row)?));
+            return self.remove_row(alloc, row);
         }
-        Ok(Some(self.remove_pair(alloc, row, pair)?))
+        self.remove_pair(alloc, row, pair)
     }
 }

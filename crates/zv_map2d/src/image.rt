@@ -18,7 +18,6 @@ use zv_var::frame::take_part;
 ///
 /// `None` where a length is cut or is more than the bytes left, or where bytes follow the fourth
 /// part. Parts are not looked into.
-#[tactic(auto, using(crate::proofs::Frames::alone_none))]
 pub fn cut_parts(image: &[u8]) -> Option<Parts<'_>>
     ensures { option_map bytes_of result ≡ unframe image.now }
 {

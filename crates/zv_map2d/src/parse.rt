@@ -1,14 +1,13 @@
 // Reading a map from the bytes of its vectors.
-ghost use Rattle.std.specs.Prelude.{◌≡◌, ℕ, ◌<◌, ◌≤◌, true, false, Some, None, IfOk, IfErr, IsTrue};
-ghost use Rattle.std.specs.Prelude.{cond, length};
+ghost use Rattle.std.specs.Prelude.{◌≡◌, ℕ, false, Some, IfOk, IfErr, IsTrue, length};
 ghost use Rattle.std.specs.List.{list_all};
 ghost use Rattle.std.specs.Option.{option_map};
 ghost use Rattle.std.specs.Result.{result_err};
 ghost use Rattle.zv_fixed.specs.Views.{values_in};
-ghost use Rattle.zv_map2d.specs.Causes.{Lists, climbs, is_parts_cause, last_of, reading, readings};
-ghost use Rattle.zv_map2d.specs.Causes.{joiner_fault, keys_ascend, lists_fault, numbers};
-ghost use Rattle.zv_map2d.specs.Causes.{read_fault};
-ghost use Rattle.zv_map2d.specs.Causes.{rows_read, stretches};
+ghost use Rattle.zv_var.specs.Format.{pieces};
+ghost use Rattle.zv_map2d.specs.Causes.{Lists, is_parts_cause, joiner_fault, last_ascending};
+ghost use Rattle.zv_map2d.specs.Causes.{lists_fault, numbers, read_fault, reading, readings};
+ghost use Rattle.zv_map2d.specs.Causes.{rows_read};
 ghost use Rattle.zv_map2d.specs.Frame.{Parts as PartsSeen};
 ghost use Rattle.zv_map2d.specs.Keys.{ascends};
 ghost use Rattle.zv_map2d.specs.Rows.{IsWell};
@@ -48,8 +47,7 @@ fn read_list<'a, K: ZvKind, C: MutableZeroVecLike<'a, K>>(bytes: &'a [u8]) -> Re
 
 /// The last end, or 0 where there is none, if the ends ascend from above 0, else `None`.
 fn last_ascending_end(joiner: ZeroSlice<'_, u32>) -> Option<u32>
-    ensures { result ≡ cond (climbs 0 (values_in joiner.entry))
-        (Some (last_of 0 (values_in joiner.entry))) None }
+    ensures { result ≡ last_ascending 0 (values_in joiner.entry) }
 {
     let mut last = 0;
     for end in joiner.iter() {
@@ -63,10 +61,9 @@ fn last_ascending_end(joiner: ZeroSlice<'_, u32>) -> Option<u32>
 
 /// Whether the keys ascend in each row.
 fn rows_ascend<K: ZvOrd, C: ZeroVecLike<K>>(keys: &C, joiner: ZeroSlice<'_, u32>) -> bool
-    requires climb { climbs 0 (values_in joiner) ≡ true }
-    requires within { last_of 0 (values_in joiner) ≤ length (C.list keys.now) }
+    requires { last_ascending 0 (values_in joiner) ≡ Some (length (C.list keys.now)) }
     ensures { result
-        ≡ list_all (ascends K.cmp) (stretches 0 (values_in joiner.entry) (C.list keys.now)) }
+        ≡ list_all (ascends K.cmp) (pieces (C.list keys.now) 0 (values_in joiner.entry)) }
 {
     let mut start = 0;
     for end in joiner.iter() {
@@ -87,15 +84,16 @@ fn check_lists<
     C0: ZeroVecLike<K0>,
     C1: ZeroVecLike<K1>,
     D: ZeroVecLike<V>,
->(keys0: &C0, joiner: ZeroSlice<'_, u32>, keys1: &C1, values: &D) -> Result<(), EditError>
+>(keys0: &C0, joiner: &ZeroVec<'_, u32>, keys1: &C1, values: &D) -> Result<(), EditError>
     ensures error { result_err result ≡ lists_fault K0.cmp K1.cmp (record {
       keys0 = C0.list keys0.now;
-      joiner = values_in joiner.entry;
+      joiner = joiner.now.values;
       keys1 = C1.list keys1.now;
       values = D.list values.now;
     }) }
     ensures cause { IfErr result (λ e. IsTrue (is_parts_cause e)) }
 {
+    let joiner = joiner.as_slice();
     let pairs = keys1.zvl_len();
     if keys0.zvl_len() != joiner.len() {
         return Err(EditError::Keys0Joiner);
@@ -182,7 +180,7 @@ impl<
         let keys0 = read_list::<K0, C0>(keys0)?;
         let keys1 = read_list::<K1, C1>(keys1)?;
         let values = read_list::<V, D>(values)?;
-        check_lists::<K0, K1, V, C0, C1, D>(&keys0, joiner.as_slice(), &keys1, &values)?;
+        check_lists::<K0, K1, V, C0, C1, D>(&keys0, &joiner, &keys1, &values)?;
         Ok(Map2dOver {
             columns: Columns {
                 keys0,

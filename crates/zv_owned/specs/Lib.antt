@@ -2,6 +2,8 @@ pub mod Examples
 pub mod Laws
 pub mod Lending
 pub mod Owned
+pub mod ShelfLending
+pub mod Shelves
 pub mod Size
 pub mod Splices
 pub mod Vectors

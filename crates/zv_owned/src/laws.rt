@@ -1,5 +1,6 @@
 // What the size rule means: worked examples, and laws. Each call does nothing, and its contract is
 // what it is for.
+ghost use Rattle.std.specs.Prelude.{◌≡◌, ◌+◌, ◌∷◌, [], IfOk, OnOk};
 ghost use Rattle.zv_owned.specs.Examples.{EmptyRefusesMost, EmptyTakesBelowMost, FullTakesNone};
 ghost use Rattle.zv_owned.specs.Examples.{FullTakesSameSize, LongerSecondIsRefused};
 ghost use Rattle.zv_owned.specs.Examples.{NotTakenIsTooLarge, OnlyGivesWay, OnlyStays};
@@ -8,6 +9,11 @@ ghost use Rattle.zv_owned.specs.Examples.{TakenIsOk, TakenMayWantMemory, ThirdIs
 ghost use Rattle.zv_owned.specs.Examples.{ThreeAreTaken};
 ghost use Rattle.zv_owned.specs.Laws.{AnyOrder, InsertKeeps, RemoveKeeps, ReplaceKeeps};
 ghost use Rattle.zv_owned.specs.Laws.{ShorterIsTaken};
+
+use crate::shelf::Shelf;
+use std::alloc::Global;
+use std::sync::ledger::Ledger;
+use zv_ule::{NoMemory, Steps};
 
 /// Elements at the edge of what a list takes, and what is answered where one is taken or not.
 pub fn sizes_by_hand()
@@ -38,3 +44,18 @@ pub fn size_rule()
     ensures shorter { ShorterIsTaken }
     ensures any_order { AnyOrder }
 {}
+
+/// A buffer that takes in the bytes 1, 2 and 3 and grows by two. The last two move to the end, 7
+/// and 8 are written in their place, and the last byte is cut: nine steps.
+pub fn shelf_by_hand<L: Ledger>(alloc: Global, steps: &mut Steps<L>) -> Result<Shelf, NoMemory>
+    ensures bytes { IfOk result (λ s. s.bytes ≡ 1 ∷ 7 ∷ 8 ∷ 2 ∷ []) }
+    ensures steps { OnOk result (steps.new ≡ steps.old + 9) }
+{
+    let mut shelf = Shelf::new(alloc);
+    shelf.take_in(&[1, 2, 3], steps)?;
+    shelf.grow(2, steps)?;
+    shelf.move_bytes(1..3, 3, steps);
+    shelf.write(1, &[7, 8], steps);
+    shelf.cut(4);
+    Ok(shelf)
+}

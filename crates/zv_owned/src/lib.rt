@@ -1,7 +1,8 @@
 //! Lists of elements of any lengths that own their bytes, or borrow them until the first change.
 //!
 //! [`VarZeroVecOwned`] is such a list in a format's encoding; after each change its bytes are the
-//! encoding of the changed list. [`VarZeroVec`] is a view or an owned list.
+//! encoding of the changed list. [`VarZeroVec`] is a view or an owned list. A
+//! [`Shelf`](shelf::Shelf) is a buffer of bytes that counts what is written into it.
 #![tactic(auto)]
 
 mod changes;
@@ -10,6 +11,7 @@ mod encoded;
 pub mod error;
 pub mod laws;
 pub mod owned;
+pub mod shelf;
 mod size;
 pub mod vector;
 

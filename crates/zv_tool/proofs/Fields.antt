@@ -1,129 +1,125 @@
--- What texts and the fields of commands are.
-use Rattle.std.proofs.Common.{◌≡◌, ◌⊎◌, ℕ, List, [], Bool, true, false, inl, inr, refl, sym, ap, ◌∙◌, Some, None, Ok, Err, codes}
-use Rattle.std.specs.Prelude.{IsUtf8, MatchResult, Result, bytes_eq, if◌then◌else◌, is_ok}
+-- What a line's words say of its command: it is no larger than they are, and its keys are texts.
+use Rattle.std.proofs.Common.{◌≡◌, ℕ, suc, ◌+◌, ◌*◌, ◌≤◌, ◌==◌, List, [], ◌∷◌, length, Bool, true, false, refl, arith, Some, None, Ok, Err, codes}
+use Rattle.std.specs.Prelude.{IfSome, Result, bytes_eq, if◌then◌else◌, sum_by}
+use Rattle.std.specs.List.{onto_first}
+use Rattle.std.specs.Result.{result_ok}
 use Rattle.std.specs.Str.{is_utf8}
-use Rattle.std.proofs.lemmas.Str.{IsUtf8-from_is_utf8, is_utf8-from_IsUtf8}
 use Rattle.std.specs.declared.option.Option.{Option}
+use Rattle.std.proofs.lemmas.List.Sums.{sum_by-cons}
+use Rattle.hex.specs.Hex.{decode_of}
+use Rattle.hex.proofs.HexLemmas.{decode_of-ok}
+use Rattle.zv_ule.specs.Kinds.{text_fault}
 use Rattle.zv_tool.specs.declared.command.Command.{Command}
 use Rattle.zv_tool.specs.declared.command.Command.TheVariants.{Get, Put, Del, Row}
-use Rattle.zv_tool.specs.Input.{◌>>=◌, one_word, two_words, three_words, bytes_of_digits, field, key, text_of, text_of_digits, get, put, del, row, command_of}
+use Rattle.zv_tool.specs.Commands.{command_size}
+use Rattle.zv_tool.specs.Digits.{◌>>=◌, bytes_of_digits}
+use Rattle.zv_tool.specs.Input.{words, field, key, get, put, del, row, command_of_words}
+use Rattle.zv_tool.specs.Laws.{OfTexts}
 
--- what a value after two steps shows
-pub bind_some : {A B : Type 0} (o : Option A) (f : A → Option B) (y : B) → (o >>= f) ≡ Some y
-    → (x : A) × ((o ≡ Some x) × (f x ≡ Some y))
-bind_some (Some x) f y h = (x, (refl, h))
-bind_some None f y h = cc h
+-- ---- options
 
--- a value of a choice is one of the two
-pub if_some : {A : Type 0} (t : Bool) (x y : Option A) (c : A) → (if t then x else y) ≡ Some c → (x ≡ Some c) ⊎ (y ≡ Some c)
-if_some true x y c h = inl h
-if_some false x y c h = inr h
+-- what holds of a value that two steps give
+if_bound : {A B : Type 0} (o : Option A) (f : A → Option B) (P : A → Type 0) (Q : B → Type 0) → IfSome o P → ((x : A) → P x → IfSome (f x) Q)
+    → IfSome (o >>= f) Q
+if_bound (Some x) f P Q first second = second x first
+if_bound None f P Q first second = tt
 
--- a value of `Some`
-pub some_is : {A : Type 0} (x y : A) → Some x ≡ Some y → x ≡ y
-some_is x y h = cc h
+-- or that a choice gives
+if_chosen : {A : Type 0} (t : Bool) (x y : Option A) (P : A → Type 0) → IfSome x P → IfSome y P → IfSome (if t then x else y) P
+if_chosen true x y P one other = one
+if_chosen false x y P one other = other
 
--- a text is its bytes, which are UTF-8
-pub text_is : (bytes text : List ℕ) → text_of bytes ≡ Some text → (bytes ≡ text) × (is_utf8 text ≡ true)
-text_is bytes text h = by (is_utf8 bytes) refl h
+-- ---- fields
+
+-- a field has two digits for each byte, and its mark
+abbrev IsFieldOf : List ℕ → List ℕ → Type 0
+IsFieldOf word bytes = length word ≡ 1 + 2 * length bytes
+
+field_is : (word : List ℕ) → IfSome (field word) (IsFieldOf word)
+field_is [] = tt
+field_is (mark ∷ digits) = if_chosen (mark == 120) (bytes_of_digits digits) None (IsFieldOf (mark ∷ digits)) (by (decode_of digits) refl) tt
   where
-    by : (t : Bool) → is_utf8 bytes ≡ t → (if t then Some bytes else None) ≡ Some text → (bytes ≡ text) × (is_utf8 text ≡ true)
-    by true is same = let e = some_is bytes text same in (e, ap is_utf8 (sym e) ∙ is)
-    by false is none = cc none
+    by : (r : Result (List ℕ) _) → decode_of digits ≡ r → IfSome (result_ok r) (IsFieldOf (mark ∷ digits))
+    by (Ok bytes) is = let long = (decode_of-ok digits bytes is).2 in omega arith
+    by (Err e) is = tt
 
--- what a test for UTF-8 answers
-pub utf8_test : {A E : Type 0} (r : Result A E) (bytes : List ℕ) (P : A → Type 0) (Q : E → Type 0)
-    → MatchResult r (λ s. P s × IsUtf8 bytes) (λ e. (IsUtf8 bytes → ⊥) × Q e) → is_ok r ≡ is_utf8 bytes
-utf8_test (Ok s) bytes P Q h = sym (is_utf8-from_IsUtf8 bytes h.1)
-utf8_test (Err e) bytes P Q h = by (is_utf8 bytes) refl
+-- a key is a text too
+abbrev IsKeyOf : List ℕ → List ℕ → Type 0
+IsKeyOf word text = IsFieldOf word text × (text_fault text ≡ None)
+
+key_is : (word : List ℕ) → IfSome (key word) (IsKeyOf word)
+key_is word = if_bound (field word) _ (IsFieldOf word) (IsKeyOf word) (field_is word) (λ bytes long. by bytes (is_utf8 bytes) refl long)
   where
-    by : (t : Bool) → is_utf8 bytes ≡ t → false ≡ t
-    by true is = absurd (h.0 (IsUtf8-from_is_utf8 bytes is))
-    by false is = refl
+    by : (bytes : List ℕ) (t : Bool) → is_utf8 bytes ≡ t → IsFieldOf word bytes → IfSome (if t then Some bytes else None) (IsKeyOf word)
+    by bytes true is long = (long, rw is refl)
+    by bytes false is long = tt
 
--- digits of a text stand for UTF-8
-pub digits_of_text : (digits text : List ℕ) → text_of_digits digits ≡ Some text → IsUtf8 text
-digits_of_text digits text h =
-    let p = bind_some (bytes_of_digits digits) text_of text h in
-    IsUtf8-from_is_utf8 text (text_is p.0 text p.1.1).1
+-- ---- commands
 
--- two words that are the keys of a pair
-pub record ArePair (fields : List (List ℕ)) (key0 key1 : List ℕ) : Type 0 where
-  pub words : List ℕ × List ℕ
-  pub two : two_words fields ≡ Some words
-  pub first : key words.0 ≡ Some key0
-  pub second : key words.1 ≡ Some key1
+abbrev pub IsCommandOf : List (List ℕ) → Command → Type 0
+IsCommandOf ws c = (command_size c ≤ sum_by length ws) × OfTexts c
 
--- three words that are the keys of a pair and a value
-pub record AreTriple (fields : List (List ℕ)) (key0 key1 value : List ℕ) : Type 0 where
-  pub words : List ℕ × List ℕ × List ℕ
-  pub three : three_words fields ≡ Some words
-  pub first : key words.0 ≡ Some key0
-  pub second : key words.1 ≡ Some key1
-  pub third : field words.2 ≡ Some value
+module _ (name : List ℕ) where
+  of_keys : (a b : List ℕ) (C : List ℕ → List ℕ → Command) → ((k l : List ℕ) → IsKeyOf a k → IsKeyOf b l → IsCommandOf (name ∷ a ∷ b ∷ []) (C k l))
+      → IfSome (key a >>= (λ k. key b >>= (λ l. Some (C k l)))) (IsCommandOf (name ∷ a ∷ b ∷ []))
+  of_keys a b C is =
+      if_bound (key a) (λ k. key b >>= (λ l. Some (C k l))) (IsKeyOf a) _ (key_is a)
+      (λ k m. if_bound (key b) (λ l. Some (C k l)) (IsKeyOf b) _ (key_is b) (λ l n. is k l m n))
 
--- one word that is a key
-pub record IsKey (fields : List (List ℕ)) (key0 : List ℕ) : Type 0 where
-  pub word : List ℕ
-  pub one : one_word fields ≡ Some word
-  pub first : key word ≡ Some key0
+  get_is : (fields : List (List ℕ)) → IfSome (get fields) (IsCommandOf (name ∷ fields))
+  get_is (a ∷ b ∷ []) = of_keys a b Get (λ k l m n. (omega (arith, m.0, n.0), (m.1, n.1)))
+  get_is [] = tt
+  get_is (a ∷ []) = tt
+  get_is (a ∷ b ∷ c ∷ rest) = tt
 
--- the words are the fields of the command
-abbrev pub AreFields : List (List ℕ) → Command → Type 0
-AreFields fields (Get key0 key1) = ArePair fields key0 key1
-AreFields fields (Put key0 key1 value) = AreTriple fields key0 key1 value
-AreFields fields (Del key0 key1) = ArePair fields key0 key1
-AreFields fields (Row key0) = IsKey fields key0
+  del_is : (fields : List (List ℕ)) → IfSome (del fields) (IsCommandOf (name ∷ fields))
+  del_is (a ∷ b ∷ []) = of_keys a b Del (λ k l m n. (omega (arith, m.0, n.0), (m.1, n.1)))
+  del_is [] = tt
+  del_is (a ∷ []) = tt
+  del_is (a ∷ b ∷ c ∷ rest) = tt
 
-get_fields : (fields : List (List ℕ)) (c : Command) → get fields ≡ Some c → AreFields fields c
-get_fields fields c h =
-    let p = bind_some (two_words fields) _ c h in
-    let a = bind_some (key p.0.0) _ c p.1.1 in
-    let b = bind_some (key p.0.1) _ c a.1.1 in
-    rw (← some_is (Get a.0 b.0) c b.1.1) (record { words = p.0; two = p.1.0; first = a.1.0; second = b.1.0 })
+  put_is : (fields : List (List ℕ)) → IfSome (put fields) (IsCommandOf (name ∷ fields))
+  put_is (a ∷ b ∷ c ∷ []) =
+      if_bound (key a) (λ k. key b >>= (λ l. field c >>= (λ v. Some (Put k l v)))) (IsKeyOf a) (IsCommandOf (name ∷ a ∷ b ∷ c ∷ [])) (key_is a)
+      (λ k m. if_bound (key b) (λ l. field c >>= (λ v. Some (Put k l v))) (IsKeyOf b) _ (key_is b)
+      (λ l n. if_bound (field c) (λ v. Some (Put k l v)) (IsFieldOf c) _ (field_is c) (λ v o. (omega (arith, m.0, n.0, o), (m.1, n.1)))))
+  put_is [] = tt
+  put_is (a ∷ []) = tt
+  put_is (a ∷ b ∷ []) = tt
+  put_is (a ∷ b ∷ c ∷ d ∷ rest) = tt
 
-del_fields : (fields : List (List ℕ)) (c : Command) → del fields ≡ Some c → AreFields fields c
-del_fields fields c h =
-    let p = bind_some (two_words fields) _ c h in
-    let a = bind_some (key p.0.0) _ c p.1.1 in
-    let b = bind_some (key p.0.1) _ c a.1.1 in
-    rw (← some_is (Del a.0 b.0) c b.1.1) (record { words = p.0; two = p.1.0; first = a.1.0; second = b.1.0 })
+  row_is : (fields : List (List ℕ)) → IfSome (row fields) (IsCommandOf (name ∷ fields))
+  row_is (a ∷ []) = if_bound (key a) (λ k. Some (Row k)) (IsKeyOf a) (IsCommandOf (name ∷ a ∷ [])) (key_is a) (λ k m. (omega (arith, m.0), m.1))
+  row_is [] = tt
+  row_is (a ∷ b ∷ rest) = tt
 
-put_fields : (fields : List (List ℕ)) (c : Command) → put fields ≡ Some c → AreFields fields c
-put_fields fields c h =
-    let p = bind_some (three_words fields) _ c h in
-    let a = bind_some (key p.0.0) _ c p.1.1 in
-    let b = bind_some (key p.0.1) _ c a.1.1 in
-    let v = bind_some (field p.0.2) _ c b.1.1 in
-    rw (← some_is (Put a.0 b.0 v.0) c v.1.1) (record { words = p.0; three = p.1.0; first = a.1.0; second = b.1.0; third = v.1.0 })
+pub command_is : (ws : List (List ℕ)) → IfSome (command_of_words ws) (IsCommandOf ws)
+command_is [] = tt
+command_is (name ∷ fields) =
+    let P = IsCommandOf (name ∷ fields) in
+    if_chosen (bytes_eq name (codes "get")) (get fields) _ P (get_is name fields)
+    (if_chosen (bytes_eq name (codes "put")) (put fields) _ P (put_is name fields)
+    (if_chosen (bytes_eq name (codes "del")) (del fields) _ P (del_is name fields)
+    (if_chosen (bytes_eq name (codes "row")) (row fields) None P (row_is name fields) tt)))
 
-row_fields : (fields : List (List ℕ)) (c : Command) → row fields ≡ Some c → AreFields fields c
-row_fields fields c h =
-    let p = bind_some (one_word fields) _ c h in
-    let a = bind_some (key p.0) _ c p.1.1 in
-    rw (← some_is (Row a.0) c a.1.1) (record { word = p.0; one = p.1.0; first = a.1.0 })
+-- ---- lines
 
--- the words after a command's name are its fields
-pub command_fields : (name : List ℕ) (fields : List (List ℕ)) (c : Command) → command_of name fields ≡ Some c → AreFields fields c
-command_fields name fields c h =
-    elim (if_some (bytes_eq name (codes "get")) (get fields) _ c h) [
-      | inl said ↦ get_fields fields c said
-      | inr h ↦ elim (if_some (bytes_eq name (codes "put")) (put fields) _ c h) [
-        | inl said ↦ put_fields fields c said
-        | inr h ↦ elim (if_some (bytes_eq name (codes "del")) (del fields) _ c h) [
-          | inl said ↦ del_fields fields c said
-          | inr h ↦ elim (if_some (bytes_eq name (codes "row")) (row fields) None c h) [
-            | inl said ↦ row_fields fields c said
-            | inr none ↦ cc none
-          ]
-        ]
-      ]
+-- the words of a line are no longer than it
+onto_first_size : (b : ℕ) (ws : List (List ℕ)) → sum_by length (onto_first b ws) ≡ 1 + sum_by length ws
+onto_first_size b [] = refl
+onto_first_size b (w ∷ ws) = omega (arith, sum_by-cons length (b ∷ w) ws, sum_by-cons length w ws)
+
+words_size : (line : List ℕ) → sum_by length (words line) ≤ length line
+words_size [] = omega arith
+words_size (b ∷ rest) =
+    let ih = words_size rest in
+    let more = onto_first_size b (words rest) in
+    elim (b == 32) as (λ t. sum_by length (if t then [] ∷ words rest else onto_first b (words rest)) ≤ suc (length rest)) [
+      | true ↦ omega (arith, sum_by-cons length [] (words rest))
+      | false ↦ omega arith
     ]
 
--- no name is a command without fields
-pub no_fields : (name : List ℕ) → command_of name [] ≡ None
-no_fields name = simp if_same
-  where
-    if_same : {A : Type 0} (t : Bool) (x : A) → (if t then x else x) ≡ x
-    if_same true x = refl
-    if_same false x = refl
+pub command_fits : (line : List ℕ) (c : Command) → command_of_words (words line) ≡ Some c → command_size c ≤ length line
+command_fits line c said =
+    let is : IfSome (Some c) (IsCommandOf (words line)) = rw said at (command_is (words line)) in
+    omega (arith, is.0, words_size line)

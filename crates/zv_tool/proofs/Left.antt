@@ -1,9 +1,8 @@
 -- What commands leave of a map of texts that can be written is one again.
 use Rattle.std.proofs.Common.{◌≡◌, ℕ, ◌+◌, Bool, true, false, List, [], ◌∷◌, refl, Some, None, Ok, Err}
-use Rattle.std.specs.Prelude.{IfOk, Result, if◌then◌else◌}
+use Rattle.std.specs.Prelude.{IfOk, IfSome, Result, if◌then◌else◌}
 use Rattle.std.specs.List.{AllByRecursion}
 use Rattle.std.specs.declared.option.Option.{Option}
-use Rattle.zv_ule.specs.Kinds.{text_fault}
 use Rattle.zv_var.specs.Format.{Part, codable}
 use Rattle.zv_map2d.specs.Fits.{fits_texts}
 use Rattle.zv_map2d.specs.Image.{IsTextMap, by_bytes}
@@ -14,37 +13,22 @@ use Rattle.zv_map2d.proofs.Standing.{canon_stands}
 use Rattle.zv_tool.specs.declared.command.Command.{Command}
 use Rattle.zv_tool.specs.declared.command.Command.TheVariants.{Get, Put, Del, Row}
 use Rattle.zv_tool.specs.Answers.{last, next}
-use Rattle.zv_tool.specs.Input.{commands, command_and, command_of_words, field, image_and, key, lines, parse_input, parse_lines, text_of, words}
+use Rattle.zv_tool.specs.Input.{commands, command_and, command_of_words, field, image_and, lines, parse_input, parse_lines, words}
 use Rattle.zv_tool.specs.Laws.{OfTexts, KeysAreTexts, LeftStands}
-use Rattle.zv_tool.proofs.Fields.{bind_some, text_is, AreFields, command_fields}
+use Rattle.zv_tool.proofs.Fields.{IsCommandOf, command_is}
 
 -- ---- keys are texts
 
-key_text : (word k : List ℕ) → key word ≡ Some k → text_fault k ≡ None
-key_text word k said =
-    let p = bind_some (field word) text_of k said in
-    rw (text_is p.0 k p.1.1).1 refl
-
-fields_texts : (fields : List (List ℕ)) (c : Command) → AreFields fields c → OfTexts c
-fields_texts fields (Get key0 key1) h = (key_text h.words.0 key0 h.first, key_text h.words.1 key1 h.second)
-fields_texts fields (Put key0 key1 value) h = (key_text h.words.0 key0 h.first, key_text h.words.1 key1 h.second)
-fields_texts fields (Del key0 key1) h = (key_text h.words.0 key0 h.first, key_text h.words.1 key1 h.second)
-fields_texts fields (Row key0) h = key_text h.word key0 h.first
-
-command_texts : (ws : List (List ℕ)) (c : Command) → command_of_words ws ≡ Some c → OfTexts c
-command_texts [] c h = cc h
-command_texts (name ∷ fields) c h = fields_texts fields c (command_fields name fields c h)
-
-and_texts : (n : ℕ) (o : Option Command) (r : Result (List Command) ℕ) → ((c : Command) → o ≡ Some c → OfTexts c) → IfOk r (AllByRecursion OfTexts)
+and_texts : (n : ℕ) (ws : List (List ℕ)) (o : Option Command) (r : Result (List Command) ℕ) → IfSome o (IsCommandOf ws) → IfOk r (AllByRecursion OfTexts)
     → IfOk (command_and n o r) (AllByRecursion OfTexts)
-and_texts n None r one all = tt
-and_texts n (Some c) (Ok cs) one all = (one c refl, all)
-and_texts n (Some c) (Err m) one all = tt
+and_texts n ws None r one all = tt
+and_texts n ws (Some c) (Ok cs) one all = (one.1, all)
+and_texts n ws (Some c) (Err m) one all = tt
 
 lines_texts : (n : ℕ) (ls : List (List ℕ)) → IfOk (commands n ls) (AllByRecursion OfTexts)
 lines_texts n [] = tt
 lines_texts n (line ∷ rest) =
-    and_texts n (command_of_words (words line)) (commands (n + 1) rest) (command_texts (words line)) (lines_texts (n + 1) rest)
+    and_texts n (words line) (command_of_words (words line)) (commands (n + 1) rest) (command_is (words line)) (lines_texts (n + 1) rest)
 
 image_texts : (o : Option (List ℕ)) (r : Result (List Command) ℕ) → IfOk r (AllByRecursion OfTexts)
     → IfOk (image_and o r) (λ parsed. AllByRecursion OfTexts parsed.1)

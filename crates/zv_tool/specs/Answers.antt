@@ -1,47 +1,24 @@
 -- What an image and commands are answered.
 use Rattle.std.specs.Prelude.{◌≡◌, ℕ, List, [], ◌∷◌, ◌++◌, if◌then◌else◌}
 use Rattle.std.specs.List.{flat_map}
-use Rattle.std.specs.declared.option.Option.{Option}
-use Rattle.std.specs.declared.option.Option.TheVariants.{Some, None}
-use Rattle.std.specs.Io.KnownBytes.{Appends}
+use Rattle.std.specs.Option.{option_map_or}
 use Rattle.zv_map2d.specs.Fits.{fits_texts}
 use Rattle.zv_map2d.specs.Image.{by_bytes, canon, Stands}
 use Rattle.zv_map.specs.Maps.{look_up}
 use Rattle.zv_map2d.specs.Rows.{Rows, find, put, del}
-use Rattle.zv_tool.specs.Devices.{AppendsPrefix}
 use Rattle.zv_tool.specs.declared.command.Command.{Command}
 use Rattle.zv_tool.specs.declared.command.Command.TheVariants.{Get, Put, Del, Row}
 use Rattle.zv_tool.specs.Output.{Reply, some, missing, added, old, too_large, pairs}
 use Rattle.zv_tool.specs.Output.{text, image_line}
 
--- the reply to a look-up, by the value that was found
-abbrev pub get_reply : Option (List ℕ) → Reply
-get_reply (Some value) = some value
-get_reply None = missing
-
--- the reply to a value that was put, by the one that it replaced
-abbrev pub put_reply : Option (List ℕ) → Reply
-put_reply (Some value) = old value
-put_reply None = added
-
--- the reply to a removal, by the value that was removed
-abbrev pub del_reply : Option (List ℕ) → Reply
-del_reply (Some value) = old value
-del_reply None = missing
-
--- the reply with a row, by the pairs of the row that was found
-abbrev pub row_reply : Option (List (List ℕ × List ℕ)) → Reply
-row_reply (Some ps) = pairs ps
-row_reply None = missing
-
 -- the reply of a command on a map
 abbrev pub reply : Rows → Command → Reply
-reply m (Get key0 key1) = get_reply (find by_bytes by_bytes m key0 key1)
+reply m (Get key0 key1) = option_map_or some (find by_bytes by_bytes m key0 key1) missing
 reply m (Put key0 key1 value) =
-    if fits_texts m key0 key1 value then put_reply (find by_bytes by_bytes m key0 key1)
-    else too_large
-reply m (Del key0 key1) = del_reply (find by_bytes by_bytes m key0 key1)
-reply m (Row key0) = row_reply (look_up by_bytes m key0)
+    if fits_texts m key0 key1 value
+    then option_map_or old (find by_bytes by_bytes m key0 key1) added else too_large
+reply m (Del key0 key1) = option_map_or old (find by_bytes by_bytes m key0 key1) missing
+reply m (Row key0) = option_map_or pairs (look_up by_bytes m key0) missing
 
 -- the map that a command leaves: a value that does not fit changes nothing
 abbrev pub next : Rows → Command → Rows
@@ -72,12 +49,3 @@ answers m cs = reply_lines m cs ++ image_line (canon (last m cs))
 -- a text that answers these commands on the map that the image stands for
 abbrev pub IsAnswer : List ℕ → List Command → List ℕ → Type 0
 IsAnswer image cs text = (m : Rows) × Stands image m × (text ≡ answers m cs)
-
--- Known bytes grew by such a text.
-abbrev pub Answered : List ℕ → List Command → Option (List ℕ) → Option (List ℕ) → Type 0
-Answered image cs before now = (text : List ℕ) × IsAnswer image cs text × Appends before now text
-
--- Known bytes grew by a prefix of such a text.
-abbrev pub AnsweredInPart : List ℕ → List Command → Option (List ℕ) → Option (List ℕ) → Type 0
-AnsweredInPart image cs before now =
-    (text : List ℕ) × IsAnswer image cs text × AppendsPrefix before now text

@@ -20,3 +20,11 @@ AppendsPrefix old new bytes = (n : ℕ) × Appends old new (take n bytes)
 abbrev pub Takes : {T E : Type 0} → Option (List ℕ) → Option (List ℕ) → Result T E → List ℕ → Type 0
 Takes old new result piece =
     MatchResult result (λ _. Appends old new piece) (λ _. AppendsPrefix old new piece)
+
+-- A text that P has was taken whole.
+abbrev pub Written : (List ℕ → Type 0) → Option (List ℕ) → Option (List ℕ) → Type 0
+Written P old new = (text : List ℕ) × P text × Appends old new text
+
+-- A prefix of a text that P has was taken.
+abbrev pub CutShort : (List ℕ → Type 0) → Option (List ℕ) → Option (List ℕ) → Type 0
+CutShort P old new = (text : List ℕ) × P text × AppendsPrefix old new text

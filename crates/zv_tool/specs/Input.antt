@@ -1,14 +1,13 @@
 -- What an input says: its lines, fields and commands.
 use Rattle.std.specs.Prelude.{◌≡◌, ℕ, ◌+◌, ◌==◌, if◌then◌else◌, List, [], ◌∷◌, codes}
-use Rattle.std.specs.Prelude.{Bool, true, bytes_eq, Result}
+use Rattle.std.specs.Prelude.{bytes_eq, Result}
 use Rattle.std.specs.List.{slice_split}
-use Rattle.std.specs.Result.{result_ok}
 use Rattle.std.specs.Str.{is_utf8}
 use Rattle.std.specs.declared.option.Option.{Option}
 use Rattle.std.specs.declared.option.Option.TheVariants.{Some, None}
 use Rattle.std.specs.declared.result.Result.TheVariants.{Ok, Err}
-use Rattle.hex.specs.Hex.{decode_of}
 use Rattle.memchr.specs.Find.{is_byte}
+use Rattle.zv_tool.specs.Digits.{◌>>=◌, bytes_of_digits}
 use Rattle.zv_tool.specs.declared.command.Command.{Command}
 use Rattle.zv_tool.specs.declared.command.Command.TheVariants.{Get, Put, Del, Row}
 use Rattle.zv_tool.specs.declared.parse.InputError.{InputError}
@@ -35,12 +34,6 @@ lines input = without_empty_last (slice_split (is_byte 10) input)
 abbrev pub words : List ℕ → List (List ℕ)
 words line = slice_split (is_byte 32) line
 
--- the second step, if the first gave a value
-infixl 10 ◌>>=◌
-abbrev pub ◌>>=◌ : {A B : Type 0} → Option A → (A → Option B) → Option B
-None >>= f = None
-Some x >>= f = f x
-
 -- the word, where there is one and no other
 abbrev pub one_word : List (List ℕ) → Option (List ℕ)
 one_word (a ∷ []) = Some a
@@ -62,40 +55,16 @@ three_words (a ∷ rest) = do
 
 -- ---- fields
 
--- the bytes that hex digits stand for: an even number of them, in either case
-abbrev pub bytes_of_digits : List ℕ → Option (List ℕ)
-bytes_of_digits digits = result_ok (decode_of digits)
-
 -- the bytes that a field stands for: `x` (120) and its digits
 abbrev pub field : List ℕ → Option (List ℕ)
 field [] = None
 field (mark ∷ digits) = if mark == 120 then bytes_of_digits digits else None
 
--- bytes, if they are UTF-8
-abbrev pub text_of : List ℕ → Option (List ℕ)
-text_of bytes = if is_utf8 bytes then Some bytes else None
-
--- the text that hex digits stand for
-abbrev pub text_of_digits : List ℕ → Option (List ℕ)
-text_of_digits digits = do
-  bytes ← bytes_of_digits digits
-  text_of bytes
-
--- whether bytes can be what is wanted: a text is UTF-8, and else any will do
-abbrev pub is_content : Bool → List ℕ → Bool
-is_content is_text bytes = if is_text then is_utf8 bytes else true
-
--- the bytes that hex digits stand for, if they can be what is wanted
-abbrev pub content_of : Bool → List ℕ → Option (List ℕ)
-content_of is_text digits = do
-  bytes ← bytes_of_digits digits
-  if is_content is_text bytes then Some bytes else None
-
 -- the text that a key stands for: a field whose bytes are UTF-8
 abbrev pub key : List ℕ → Option (List ℕ)
 key word = do
   bytes ← field word
-  text_of bytes
+  if is_utf8 bytes then Some bytes else None
 
 -- ---- commands
 

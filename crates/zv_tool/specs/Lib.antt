@@ -2,6 +2,7 @@ pub mod Answers
 pub mod Commands
 pub mod Compact
 pub mod Devices
+pub mod Digits
 pub mod Input
 pub mod Laws
 pub mod Memory

@@ -59,14 +59,6 @@ IsWantedStatus words input status = MatchBool (is_edit words)
     (IfSome input (λ bytes. status ≡ status_of_parsed (parse_input bytes)))
     (status ≡ Usage)
 
--- A text that P has was taken whole.
-abbrev pub Written : (List ℕ → Type 0) → Option (List ℕ) → Option (List ℕ) → Type 0
-Written P old new = (text : List ℕ) × P text × Appends old new text
-
--- A prefix of a text that P has was taken.
-abbrev pub CutShort : (List ℕ → Type 0) → Option (List ℕ) → Option (List ℕ) → Type 0
-CutShort P old new = (text : List ℕ) × P text × AppendsPrefix old new text
-
 -- whether a status says that the input was read to its end and answered
 abbrev pub is_answer : Status → Bool
 is_answer Done = true

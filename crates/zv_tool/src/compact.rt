@@ -1,6 +1,6 @@
 // Bytes that stand in place where they are few, and are boxed where they are more.
-ghost use Rattle.std.specs.Prelude.{◌≡◌, ◌≤◌, IfOk, take};
-ghost use Rattle.zv_tool.specs.Input.{content_of, is_content};
+ghost use Rattle.std.specs.Prelude.{◌≡◌, ◌≤◌, IsTrue, IsUtf8, IfOk, length, take};
+ghost use Rattle.zv_tool.specs.Digits.{content_of, is_of_kind};
 
 use hex::FromHexError;
 use std::alloc::Global;
@@ -11,6 +11,11 @@ use zv_ule::NoMemory;
 // too, but are slower.)
 const IN_PLACE: usize = 12;
 
+// The kinds of content: any bytes, and bytes that are UTF-8 (RFC 3629).
+pub(crate) const BYTES: u8 = 0;
+
+pub(crate) const TEXT: u8 = 1;
+
 // The vector is boxed so that either variant fits 16 bytes.
 #[derive(Drop)]
 enum Stored {
@@ -20,38 +25,41 @@ enum Stored {
 
 const _: () = prove!(size_of::<Stored>() == 16);
 
-// Whether bytes can be what is wanted: a text is UTF-8 (RFC 3629).
-fn is_content(is_text: bool, bytes: &[u8]) -> bool
-    ensures { result ≡ is_content is_text bytes.now }
+// Whether bytes are of a kind.
+fn is_of_kind(kind: u8, bytes: &[u8]) -> bool
+    ensures { result ≡ is_of_kind kind bytes.now }
 {
-    if is_text {
+    if kind == TEXT {
         std::str::from_utf8(bytes).is_ok()
     } else {
         true
     }
 }
 
-/// Bytes that take 16 bytes of their own: up to 12 of them stand in place, and only more take
-/// memory.
+/// Bytes of a kind. They take 16 bytes of their own: up to 12 of them stand in place, and only more
+/// take memory.
 #[derive(Drop)]
-pub(crate) struct CompactBytes {
+pub struct CompactBytes<const KIND: u8> {
     stored: Stored,
 }
 
-impl Model for CompactBytes {
-    ghost use Rattle.std.specs.Prelude.{List, ℕ};
+impl<const KIND: u8> Model for CompactBytes<KIND> {
+    ghost use Rattle.std.specs.Prelude.{List, ℕ, IsTrue};
     ghost use Rattle.zv_tool.specs.Compact.{stored_bytes, IsSound};
+    ghost use Rattle.zv_tool.specs.Digits.{is_of_kind};
 
     ghost Value = { List ℕ };
 
     ghost view = { λ b. stored_bytes b.stored };
 
-    ghost invariant = { λ b. IsSound b.stored };
+    ghost invariant = { λ b. IsSound b.stored
+        × IsTrue (is_of_kind KIND (stored_bytes b.stored)) };
 }
 
-impl CompactBytes {
-    /// A copy of bytes.
-    pub(crate) fn new(alloc: Global, bytes: &[u8]) -> Result<Self, NoMemory>
+impl<const KIND: u8> CompactBytes<KIND> {
+    // A copy of bytes of the kind.
+    fn copy_of(alloc: Global, bytes: &[u8]) -> Result<Self, NoMemory>
+        requires { IsTrue (is_of_kind KIND bytes.now) }
         ensures { IfOk result (λ b. b ≡ bytes.now) }
     {
         if bytes.len() > IN_PLACE {
@@ -62,43 +70,38 @@ impl CompactBytes {
         Ok(CompactBytes::in_place(place, bytes.len()))
     }
 
-    /// The bytes that hex digits stand for, or `None` where they stand for none, or where a text is
-    /// wanted and they aren't UTF-8. Up to 12 bytes take no memory. (They are checked before they
+    /// The bytes that hex digits stand for, or `None` where they stand for none, or where they
+    /// aren't of the kind. Up to 12 bytes take no memory. (They are checked before they
     /// are moved, which is faster.)
-    pub(crate) fn from_hex<const IS_TEXT: bool>(
-        alloc: Global,
-        digits: &[u8],
-    ) -> Result<Option<Self>, NoMemory>
-        ensures { IfOk result (λ b. b ≡ content_of IS_TEXT digits.now) }
+    pub(crate) fn from_hex(alloc: Global, digits: &[u8]) -> Result<Option<Self>, NoMemory>
+        ensures { IfOk result (λ b. b ≡ content_of KIND digits.now) }
     {
         let len = digits.len() / 2;
         if len > IN_PLACE {
-            return CompactBytes::from_long_hex::<IS_TEXT>(alloc, digits);
+            return CompactBytes::from_long_hex(alloc, digits);
         }
         let mut bytes = [0u8; IN_PLACE];
         let place = &mut bytes[..len];
         if hex::decode_to_slice(digits, place).is_err() {
             return Ok(None);
         }
-        if !is_content(IS_TEXT, place) {
+        if !is_of_kind(KIND, place) {
             return Ok(None);
         }
         Ok(Some(CompactBytes::in_place(bytes, len)))
     }
 
-    // The same for bytes that take memory.
-    fn from_long_hex<const IS_TEXT: bool>(
-        alloc: Global,
-        digits: &[u8],
-    ) -> Result<Option<Self>, NoMemory>
-        ensures { IfOk result (λ b. b ≡ content_of IS_TEXT digits.now) }
+    // The same for bytes that take memory. (Apart, it leaves the way of the many short ones free.)
+    #[inline(never)]
+    fn from_long_hex(alloc: Global, digits: &[u8]) -> Result<Option<Self>, NoMemory>
+        ensures { IfOk result (λ b. b ≡ content_of KIND digits.now) }
     {
         let bytes = match hex::decode(alloc, digits) {
             Ok(bytes) => bytes,
             Err(FromHexError::OutOfMemory) => return Err(NoMemory),
             Err(_) => return Ok(None),
         };
-        if !is_content(IS_TEXT, &bytes) {
+        if !is_of_kind(KIND, &bytes) {
             return Ok(None);
         }
         Ok(Some(CompactBytes::boxed(alloc, bytes)?))
@@ -106,7 +109,8 @@ impl CompactBytes {
 
     // The first bytes of an array.
     fn in_place(bytes: [u8; IN_PLACE], len: usize) -> Self
-        requires { len ≤ IN_PLACE }
+        requires within { len ≤ IN_PLACE }
+        requires content { IsTrue (is_of_kind KIND (take len bytes)) }
         ensures { result ≡ take len bytes }
     {
         let len = len as u8;
@@ -117,6 +121,7 @@ impl CompactBytes {
 
     // The bytes of a vector.
     fn boxed(alloc: Global, bytes: Vec<u8>) -> Result<Self, NoMemory>
+        requires { IsTrue (is_of_kind KIND bytes.items) }
         ensures { IfOk result (λ b. b ≡ bytes.items) }
     {
         match Box::new(alloc, bytes) {
@@ -127,13 +132,53 @@ impl CompactBytes {
         }
     }
 
-    /// The bytes, wherever they stand.
-    pub(crate) fn as_slice(&self) -> &[u8]
-        ensures { result.now ≡ self.now }
+    // The bytes, wherever they stand.
+    fn as_slice(&self) -> &[u8]
+        ensures content { IsTrue (is_of_kind KIND result.now) }
+        ensures bytes { result.now ≡ self.now }
     {
         match &self.stored {
             Stored::Few { len, bytes } => &bytes[..*len as usize],
             Stored::Many(bytes) => bytes.as_slice(),
         }
+    }
+
+    // How many bytes there are.
+    pub(crate) fn len(&self) -> usize
+        ensures { result ≡ length self.now }
+    {
+        self.as_slice().len()
+    }
+}
+
+impl CompactBytes<TEXT> {
+    /// A copy of a text.
+    pub fn new(alloc: Global, text: &str) -> Result<Self, NoMemory>
+        ensures { IfOk result (λ k. k ≡ text.now) }
+    {
+        CompactBytes::copy_of(alloc, text.as_bytes())
+    }
+
+    /// The text as it was given.
+    pub fn as_str(&self) -> &str
+        ensures { result.now ≡ self.now }
+    {
+        unsafe { std::str::from_utf8_unchecked(self.as_slice()) }
+    }
+}
+
+impl CompactBytes<BYTES> {
+    /// A copy of bytes.
+    pub fn new(alloc: Global, bytes: &[u8]) -> Result<Self, NoMemory>
+        ensures { IfOk result (λ v. v ≡ bytes.now) }
+    {
+        CompactBytes::copy_of(alloc, bytes)
+    }
+
+    /// The bytes as they were given.
+    pub fn as_bytes(&self) -> &[u8]
+        ensures { result.now ≡ self.now }
+    {
+        self.as_slice()
     }
 }

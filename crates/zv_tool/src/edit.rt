@@ -6,9 +6,10 @@ ghost use Rattle.zv_map2d.specs.Fits.{fits_texts};
 ghost use Rattle.zv_map2d.specs.Image.{by_bytes, fault};
 ghost use Rattle.zv_map2d.specs.Refusals.{RefusedUnless};
 ghost use Rattle.zv_map2d.specs.Rows.{find, put};
-ghost use Rattle.zv_tool.specs.Answers.{Answered, AnsweredInPart};
-ghost use Rattle.zv_tool.specs.Devices.{Rose};
+ghost use Rattle.zv_tool.specs.Answers.{IsAnswer};
+ghost use Rattle.zv_tool.specs.Devices.{Rose, Written, CutShort};
 
+use crate::command::{KeyText, ValueBytes};
 use crate::commands::Commands;
 use crate::device::{Failed, Sink};
 use crate::replies::answer_text;
@@ -26,9 +27,9 @@ pub(crate) type ImageMap<'a> = ZeroMap2d<'a, StrULE, StrULE, SliceULE<u8>>;
 pub(crate) fn put_value(
     alloc: Global,
     map: &mut ImageMap<'_>,
-    key0: &str,
-    key1: &str,
-    value: &[u8],
+    key0: &KeyText,
+    key1: &KeyText,
+    value: &ValueBytes,
 ) -> Result<Option<VarBox<SliceULE<u8>>>, Map2dError>
     ensures rows { OnOk result (map.new.rows
         ≡ put by_bytes by_bytes map.old.rows key0.now key1.now value.now) }
@@ -39,7 +40,8 @@ pub(crate) fn put_value(
         (fits_texts map.old.rows key0.now key1.now value.now) false result }
 {
     map.in_order();
-    map.insert(alloc, &key0, &key1, &VarRef::of_bytes(value))
+    let value = VarRef::of_bytes(value.as_bytes());
+    map.insert(alloc, &key0.as_str(), &key1.as_str(), &value)
 }
 
 /// Runs commands on the map of an image, in order: a reply for each, and the line of the canonical
@@ -55,7 +57,7 @@ pub fn edit2d<K: Sink>(
     sink: &mut K,
 ) -> Result<(), EditError>
     ensures ok { OnOk result
-        (Answered image.now commands.now (K.taken sink.old) (K.taken sink.new)) }
+        (Written (IsAnswer image.now commands.now) (K.taken sink.old) (K.taken sink.new)) }
 
     // A cause comes exactly where the image has one, and it is that one.
     ensures valid { OnOk result (fault image.now ≡ None) }
@@ -69,7 +71,7 @@ pub fn edit2d<K: Sink>(
     // not Write.
     ensures untouched { IfErr result (λ e. (e ≡ EditError.Write → ⊥) → sink.new ≡ sink.old) }
     ensures in_part { IsErrOf result EditError.Write
-        → AnsweredInPart image.now commands.now (K.taken sink.old) (K.taken sink.new) }
+        → CutShort (IsAnswer image.now commands.now) (K.taken sink.old) (K.taken sink.new) }
 {
     let mut map = parse_image(image)?;
     let Ok(text) = answer_text(alloc, &mut map, commands) else {

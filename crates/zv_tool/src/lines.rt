@@ -4,7 +4,8 @@ ghost use Rattle.std.specs.Prelude.{IfOk, MatchOption, Some, None};
 ghost use Rattle.std.specs.List.{slice_split};
 ghost use Rattle.memchr.specs.Find.{is_byte};
 ghost use Rattle.zv_tool.specs.Input.{lines, words, one_word, two_words, three_words};
-ghost use Rattle.zv_tool.specs.Input.{bytes_of_digits, field, key};
+ghost use Rattle.zv_tool.specs.Digits.{bytes_of_digits};
+ghost use Rattle.zv_tool.specs.Input.{field, key};
 
 use crate::command::{KeyText, ValueBytes};
 use hex::FromHexError;
@@ -13,6 +14,7 @@ use std::alloc::Global;
 use zv_ule::NoMemory;
 
 // What stands before the first such byte, and what follows it, if there is one.
+#[inline(always)]
 fn split_at_byte(byte: u8, text: &[u8]) -> (&[u8], Option<&[u8]>)
     ensures split { MatchOption result.1
         (slice_split (is_byte byte) text.now ≡ text.now ∷ [])

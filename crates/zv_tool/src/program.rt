@@ -2,13 +2,13 @@
 ghost use Rattle.std.specs.Prelude.{◌≡◌, ◌⊎◌, ◌<◌, ◌≤◌, IsTrue, IsFalse, IfSome, length};
 ghost use Rattle.std.specs.Io.KnownBytes.{Appends, IsAtEnd};
 ghost use Rattle.zv_map2d.specs.Causes.{is_cause};
-ghost use Rattle.zv_tool.specs.Devices.{Rose, AppendsPrefix};
+ghost use Rattle.zv_tool.specs.Devices.{Rose, AppendsPrefix, Written, CutShort};
 ghost use Rattle.zv_tool.specs.Input.{parse_input};
 ghost use Rattle.zv_tool.specs.Output.{bad_line, cause_line};
 ghost use Rattle.zv_tool.specs.Program.{is_edit, is_answer, is_silent, is_written};
 ghost use Rattle.zv_tool.specs.Program.{ImageText, InputText, WantedText, IsWantedStatus};
 ghost use Rattle.zv_tool.specs.Program.{status_of_image, status_of_parsed};
-ghost use Rattle.zv_tool.specs.Program.{Sent, Written, CutShort};
+ghost use Rattle.zv_tool.specs.Program.{Sent};
 
 use crate::device::{Failed, Sink, Source};
 use crate::edit::edit2d;

@@ -83,11 +83,11 @@ impl<W: Write> Sink for StdSink<W> {
 fn write_whole<W: Write>(writer: &mut W, piece: &[u8]) -> Result<(), Failed>
     ensures { Takes (W.contents writer.old) (W.contents writer.new) result piece.now }
 {
-    let mut rest = piece;
-    while !rest.is_empty() {
-        match writer.write(rest) {
+    let mut at = 0;
+    while at < piece.len() {
+        match writer.write(&piece[at..]) {
             Ok(0) => return Err(Failed),
-            Ok(count) => rest = &rest[count..],
+            Ok(count) => at += count,
             Err(_) => return Err(Failed),
         }
     }

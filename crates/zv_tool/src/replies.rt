@@ -43,7 +43,7 @@ fn push_put(
     ensures left { OnOk result (map.new.rows
         ≡ next map.old.rows (Command.Put key0.now key1.now value.now)) }
 {
-    match put_value(alloc, map, key0.as_str(), key1.as_str(), value.as_bytes()) {
+    match put_value(alloc, map, key0, key1, value) {
         Ok(Some(old)) => push_value(out, b"old x", old.as_bytes()),
         Ok(None) => Ok(out.extend_from_slice(b"new\n")?),
         Err(Map2dError::TooLarge) => Ok(out.extend_from_slice(b"toolarge\n")?),

@@ -5,27 +5,24 @@ use Rattle.zv_ule.specs.Bytes.{le, number}
 use Rattle.zv_ule.proofs.Fields.{length-le, number-le}
 use Rattle.zv_var.specs.Frame.{framed, parted, first_part}
 
--- a first part, its length being field
-first_part-field : (field tail : List ℕ) → length field ≡ 8 → first_part (field ++ tail) ≡ parted (number field) tail
-first_part-field field tail e =
-    let t : take 8 (field ++ tail) ≡ field = take_at field tail 8 e in
-    let d : drop 8 (field ++ tail) ≡ tail = drop_at field tail 8 e in
-    let l : 8 ≤ length (field ++ tail) = omega (arith, length-append field tail) in
-    let p : first_part (field ++ tail) ≡ parted (number (take 8 (field ++ tail))) (drop 8 (field ++ tail)) = grind arith in
-    p ∙ (ap (λ (f : List ℕ). parted (number f) (drop 8 (field ++ tail))) t ∙ ap (λ (b : List ℕ). parted (number field) b) d)
-
 parted-append : (p r : List ℕ) → parted (length p) (p ++ r) ≡ Some (p, r)
 parted-append p r =
-    let t : take (length p) (p ++ r) ≡ p = take_at p r (length p) refl in
-    let d : drop (length p) (p ++ r) ≡ r = drop_at p r (length p) refl in
+    let t = take_at p r (length p) refl in
+    let d = drop_at p r (length p) refl in
     let l : length p ≤ length (p ++ r) = omega (arith, length-append p r) in
-    let s : parted (length p) (p ++ r) ≡ Some (take (length p) (p ++ r), drop (length p) (p ++ r)) = grind arith in
-    let e : Some (take (length p) (p ++ r), drop (length p) (p ++ r)) ≡ Some (p, r) = rw (t, d) refl in
-    s ∙ e
+    grind arith
+
+-- a first part, its length being n
+first_part-field : (field tail : List ℕ) (n : ℕ) → length field ≡ 8 → number field ≡ n → first_part (field ++ tail) ≡ parted n tail
+first_part-field field tail n e is =
+    let t = take_at field tail 8 e in
+    let d = drop_at field tail 8 e in
+    let l : 8 ≤ length (field ++ tail) = omega (arith, length-append field tail) in
+    let p : first_part (field ++ tail) ≡ parted (number (take 8 (field ++ tail))) (drop 8 (field ++ tail)) = grind arith in
+    p ∙ rw (t, d, is) refl
 
 -- A framed part is taken, whatever follows it.
 pub first_part_of_framed : (p r : List ℕ) → length p < 256 ^ 8 → first_part (framed p ++ r) ≡ Some (p, r)
 first_part_of_framed p r h =
     ap first_part (append_assoc (le 8 (length p)) p r)
-    ∙ (first_part-field (le 8 (length p)) (p ++ r) (length-le 8 (length p))
-    ∙ (ap (λ (n : ℕ). parted n (p ++ r)) (number-le 8 (length p) h) ∙ parted-append p r))
+    ∙ (first_part-field (le 8 (length p)) (p ++ r) (length p) (length-le 8 (length p)) (number-le 8 (length p) h) ∙ parted-append p r)

@@ -2,8 +2,8 @@
 //
 // Throughout, `indices` begins with as many starts as `starts` says, and `body` are the bytes of
 // the elements.
-ghost use Rattle.std.specs.Prelude.{◌≡◌, ℕ, ◌*◌, ◌≤◌, List, [], ◌∷◌, ◌++◌, length, true, None};
-ghost use Rattle.std.specs.Prelude.{IsTrue};
+ghost use Rattle.std.specs.Prelude.{◌≡◌, ℕ, ◌+◌, ◌*◌, ◌^◌, ◌<◌, ◌≤◌, List, [], ◌∷◌, ◌++◌, length};
+ghost use Rattle.std.specs.Prelude.{IsTrue, None, true};
 ghost use Rattle.std.specs.Result.{result_err};
 ghost use Rattle.std.specs.List.{AllByRecursion};
 ghost use Rattle.zv_var.specs.Format.{elements_fault, fields};
@@ -49,8 +49,8 @@ fn are_in_order<F: VarZeroVecFormat>(starts: usize, indices: &[u8], end: usize) 
     let mut start = 0u32;
     let mut rest = indices;
     for _i in 0..starts {
-        let (field, after) = rest.split_at(F::W);
-        let next = read_start::<F>(field) as u32;
+        let (at, after) = split_start::<F>(rest);
+        let next = at as u32;
         good &= start <= next;
         start = next;
         rest = after;
@@ -72,8 +72,8 @@ fn are_boundaries<T: ZvKind, F: VarZeroVecFormat>(
     let mut good = true;
     let mut rest = indices;
     for _i in 0..starts {
-        let (field, after) = rest.split_at(F::W);
-        good &= T::is_boundary(body, read_start::<F>(field));
+        let (at, after) = split_start::<F>(rest);
+        good &= T::is_boundary(body, at);
         rest = after;
     }
     good
@@ -94,19 +94,42 @@ pub(crate) fn check_elements<T: ZvKind, F: VarZeroVecFormat>(
     let mut start = 0;
     let mut rest = indices;
     for _i in 0..starts {
-        let (field, after) = rest.split_at(F::W);
-        let end = read_start::<F>(field);
-        if end < start || body.len() < end {
-            return Err(VarZeroVecFormatError::Metadata);
-        }
-        if let Err(e) = T::check(&body[start..end]) {
-            return Err(VarZeroVecFormatError::Values(e));
-        }
+        let (end, after) = split_start::<F>(rest);
+        check_element::<T>(body, start, end)?;
         start = end;
         rest = after;
     }
-    if let Err(e) = T::check(&body[start..]) {
+    check_element::<T>(body, start, body.len())
+}
+
+/// Checks one element, that it lies within the bytes and is valid.
+#[inline(always)]
+fn check_element<T: ZvKind>(
+    body: &[u8],
+    start: usize,
+    end: usize,
+) -> Result<(), VarZeroVecFormatError>
+    requires { IsTrue T.usable }
+    ensures { result_err result ≡ elements_fault T.fault body.now start (end ∷ []) }
+{
+    if end < start || body.len() < end {
+        return Err(VarZeroVecFormatError::Metadata);
+    }
+    if let Err(e) = T::check(&body[start..end]) {
         return Err(VarZeroVecFormatError::Values(e));
     }
     Ok(())
+}
+
+/// The first start, and the bytes after it.
+#[inline(always)]
+fn split_start<F: VarZeroVecFormat>(indices: &[u8]) -> (usize, &[u8])
+    requires { F.W ≤ length indices.now }
+    ensures fields { (k n : ℕ) → k ≡ n + 1 →
+        fields F.W k indices.now ≡ result.0 ∷ fields F.W n result.1.now }
+    ensures rest { F.W + length result.1.now ≡ length indices.now }
+    ensures small { result.0 < 2 ^ 32 }
+{
+    let (field, rest) = indices.split_at(F::W);
+    (read_start::<F>(field), rest)
 }

@@ -92,6 +92,7 @@ fn complete_stripe<'b>(lanes: &mut [u64; 4], pending: &Pending, bytes: &'b [u8])
 }
 
 /// The worked values of the definition.
+#[tactic(auto, unfolding(crate::specs::Digest::xxh64))]
 pub fn worked_values()
     ensures no_bytes { NoBytes }
     ensures three_bytes { ThreeBytes }

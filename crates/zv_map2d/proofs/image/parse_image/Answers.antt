@@ -12,9 +12,9 @@ pub returns-clause-map : goal.returns-clause-map
 returns-clause-map c =
     let bytes : IsBytes c.args.image.now = search rules in
     let read = c.parse_parts.ensures in
-    parsed_stands c.args.image.now (bytes_of c.in-Some.parts) c.parse_parts.result bytes c.in-Some.ensures read.error read.rows
+    parsed_stands c.args.image.now (bytes_of c.in-Some.parts) bytes c.in-Some.ensures c.parse_parts.result read.error read.rows
 
 pub returns-clause-parts : goal.returns-clause-parts
 returns-clause-parts c =
     let bytes : IsBytes c.args.image.now = search rules in
-    parsed_frame c.args.image.now (bytes_of c.in-Some.parts) c.parse_parts.result bytes c.in-Some.ensures c.parse_parts.ensures.parts
+    parsed_frame c.args.image.now (bytes_of c.in-Some.parts) bytes c.in-Some.ensures c.parse_parts.result c.parse_parts.ensures.parts

@@ -1,15 +1,16 @@
-use Rattle.zv_map2d.proofs.Changed.{first_pair, new_first_row, new_pair, other_value, one_of_two, only_pair, missing_pair, long_values, keys_there}
+use Rattle.std.proofs.Common.{refl}
 use Rattle.zv_map2d.proofs.laws.worked_changes.Goals as goal
 
+-- each by computing
 pub returns : goal.returns
 returns c = record {
-  first_pair = first_pair;
-  new_first_row = new_first_row;
-  new_pair = new_pair;
-  other_value = other_value;
-  one_of_two = one_of_two;
-  only_pair = only_pair;
-  missing_pair = missing_pair;
-  long_values = long_values;
-  keys_there = keys_there;
+  first_pair = refl;
+  new_first_row = (refl, refl, refl);
+  new_pair = (refl, refl, refl, refl);
+  other_value = (refl, refl);
+  one_of_two = (refl, refl);
+  only_pair = (refl, refl, refl);
+  missing_pair = (refl, refl);
+  long_values = (refl, refl, refl, refl);
+  keys_there = (refl, refl, refl, refl);
 }

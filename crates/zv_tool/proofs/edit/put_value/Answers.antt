@@ -4,6 +4,8 @@ use Rattle.zv_tool.proofs.edit.put_value.Goals as goal
 
 pub returns-clause-refused : goal.returns-clause-refused
 returns-clause-refused c =
-    let v = c.of_bytes.result.bytes.now in
+    let k0 = c.as_str.result.now in
+    let k1 = c.as_str-2.result.now in
+    let v = c.of_bytes-value.result.bytes.now in
     let same : v ≡ c.args.value.now = search rules in
-    rw same at (refused_texts c.args.map.now.rows c.args.key0.now c.args.key1.now v c.insert.result c.in_order.ensures c.insert.ensures.refused)
+    rw (same, c.as_str.ensures, c.as_str-2.ensures) at (refused_texts c.args.map.now.rows k0 k1 v c.insert.result c.in_order.ensures c.insert.ensures.refused)

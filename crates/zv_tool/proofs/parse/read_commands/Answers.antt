@@ -2,7 +2,7 @@ use Rattle.std.proofs.Common.{◌≡◌, ◌∷◌, ◌++◌, [], ◌∙◌, ap,
 use Rattle.std.proofs.lemmas.List.Sums.{sum_by_push}
 use Rattle.zv_tool.specs.Input.{words, command_of_words}
 use Rattle.zv_tool.specs.Commands.{total_size, command_size}
-use Rattle.zv_tool.proofs.Sizes.{command_fits}
+use Rattle.zv_tool.proofs.Fields.{command_fits}
 use Rattle.zv_tool.proofs.Parsing.{one_more_command}
 use Rattle.zv_tool.proofs.parse.read_commands.Goals as goal
 

@@ -1,18 +1,35 @@
-use Rattle.zv_tool.proofs.Taken.{taken_more, taken_same, taken_prefix}
+use Rattle.std.proofs.Common.{rules, ◌≡◌, ℕ, ◌+◌, ◌-◌, List, ◌++◌, length, take, drop, take_all, sym, ap, ◌∙◌, subst, arith}
+use Rattle.std.specs.Io.KnownBytes.{Appends}
+use Rattle.std.specs.declared.option.Option.{Option}
+use Rattle.std.proofs.KnownBytes.{Appends-trans, Appends-kept}
+use Rattle.std.proofs.Math.Seq.{take-add}
+use Rattle.std.proofs.lemmas.List.{take_rest}
 use Rattle.zv_tool.proofs.real.write_whole.Goals as goal
 
-pub loop-rest-preserved : goal.loop-rest-preserved
-loop-rest-preserved g c = taken_more c.args.piece.now c.loop-rest.rest.now c.in-Ok.count _ _ _ c.loop-rest.invariant c.in-Ok.ensures.bytes
+-- n bytes more of a piece are taken
+taken_more : (piece : List ℕ) (at n : ℕ) (old now new : Option (List ℕ)) → Appends old now (take at piece)
+    → Appends now new (take n (take (length piece - at) (drop at piece))) → Appends old new (take (at + n) piece)
+taken_more piece at n old now new before more =
+    let both : take (at + n) piece ≡ take at piece ++ take n (take (length piece - at) (drop at piece)) =
+    take-add at n piece ∙ ap (λ (l : List ℕ). take at piece ++ take n l) (sym (take_rest piece at)) in
+    subst (Appends old new) (sym both) (Appends-trans old now new _ _ before more)
+
+pub loop-at-preserved : goal.loop-at-preserved
+loop-at-preserved g c = record {
+  within = search rules;
+  taken = taken_more c.args.piece.now c.loop-at.at c.in-Ok.count _ _ _ c.loop-at.invariant.taken c.in-Ok.ensures.bytes;
+}
 
 pub returns-in-Ok-eq0 : goal.returns-in-Ok-eq0
-returns-in-Ok-eq0 g c =
-    let rest = c.loop-rest.rest.now in
-    taken_prefix c.args.piece.now _ _ _ (taken_more c.args.piece.now rest c.in-Ok-eq0.field-0 _ _ _ c.loop-rest.invariant c.in-Ok-eq0.ensures.bytes)
+returns-in-Ok-eq0 g c = (_, taken_more c.args.piece.now c.loop-at.at c.in-Ok-eq0.field-0 _ _ _ c.loop-at.invariant.taken c.in-Ok-eq0.ensures.bytes)
 
 pub returns-in-Err : goal.returns-in-Err
-returns-in-Err g c =
-    taken_prefix c.args.piece.now _ _ _ (taken_same c.args.piece.now c.loop-rest.rest.now _ _ _ c.loop-rest.invariant c.in-Err.ensures.bytes)
+returns-in-Err g c = (_, Appends-kept _ _ _ _ c.loop-at.invariant.taken c.in-Err.ensures.bytes)
+
+pub returns-in-Ok-flush : goal.returns-in-Ok-flush
+returns-in-Ok-flush g c =
+    let whole : take c.loop-at.at c.args.piece.now ≡ c.args.piece.now = take_all _ c.args.piece.now (omega arith) in
+    subst (Appends _ _) whole (Appends-kept _ _ _ _ c.loop-at.invariant.taken c.in-Ok-flush.ensures.bytes)
 
 pub returns-in-Err-flush : goal.returns-in-Err-flush
-returns-in-Err-flush g c =
-    taken_prefix c.args.piece.now _ _ _ (taken_same c.args.piece.now c.loop-rest.rest.now _ _ _ c.loop-rest.invariant c.in-Err-flush.ensures.bytes)
+returns-in-Err-flush g c = (_, Appends-kept _ _ _ _ c.loop-at.invariant.taken c.in-Err-flush.ensures.bytes)

@@ -1,16 +1,20 @@
-use Rattle.std.proofs.Common.{◌≡◌, ℕ, ◌+◌, ◌-◌, ◌/◌, length, arith, ◌∙◌}
-use Rattle.zv_xxhash.proofs.Stripes.{stripe_more, rest_more}
+use Rattle.std.proofs.Common.{◌≤◌, ◌<◌, length, arith, sym, ◌∙◌}
+use Rattle.zv_xxhash.proofs.Pieces.{lanes_few, left_few, lanes_step, left_step}
 use Rattle.zv_xxhash.proofs.lanes.add_stripes.Goals as goal
 
 pub loop-turn-preserved : goal.loop-turn-preserved
 loop-turn-preserved c =
-    let n : ℕ = length c.args.bytes.now / 32 in
-    let more : n - c.loop-turn.turn ≡ n - (c.loop-turn.turn + 1) + 1 = omega arith in
+    let long : 32 ≤ length c.loop-turn.rest.now = omega arith in
     record {
-      left = omega (arith, c.split_at.ensures.back_len);
-      same = stripe_more (n - c.loop-turn.turn) (n - (c.loop-turn.turn + 1)) c.loop-turn.lanes c.loop-turn.rest.now
-          c.split_at.result.0.now c.split_at.result.1.now c.add_stripe.new.lanes
-          more c.split_at.ensures.front c.split_at.ensures.back c.add_stripe.ensures
-          ∙ c.loop-turn.invariant.same;
-      place = rest_more 32 c.loop-turn.turn c.loop-turn.rest.now c.split_at.result.1.now c.args.bytes.now c.loop-turn.invariant.place c.split_at.ensures.back;
+      long = omega (arith, c.split_at.ensures.back_len);
+      lanes = rw (c.add_stripe.ensures, c.split_at.ensures.front, c.split_at.ensures.back)
+          (sym (lanes_step c.loop-turn.lanes c.loop-turn.rest.now long) ∙ c.loop-turn.invariant.lanes);
+      left = rw c.split_at.ensures.back (sym (left_step c.loop-turn.rest.now long) ∙ c.loop-turn.invariant.left);
+    }
+
+pub returns : goal.returns
+returns c =
+    let few : length c.loop-turn.rest.now < 32 = omega arith in record {
+      lanes = sym (lanes_few c.loop-turn.lanes c.loop-turn.rest.now few) ∙ c.loop-turn.invariant.lanes;
+      left = sym (left_few c.loop-turn.rest.now few) ∙ c.loop-turn.invariant.left;
     }

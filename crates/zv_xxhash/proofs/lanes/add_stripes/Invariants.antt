@@ -1,11 +1,11 @@
-use Rattle.std.proofs.Common.{◌≡◌, ◌-◌, ◌*◌, ◌≤◌, length, drop}
-use Rattle.zv_xxhash.specs.Digest.{lanes_through}
+use Rattle.std.proofs.Common.{◌≡◌, ◌+◌, ◌*◌, length}
+use Rattle.zv_xxhash.specs.Digest.{all_lanes, left_over}
 use Rattle.zv_xxhash.proofs.lanes.add_stripes.Given as goal
 
--- the lanes with the stripes that are left are those of the whole
+-- the rest goes on as the whole does
 abbrev pub invariant-loop-turn : goal.invariant-loop-turn
 invariant-loop-turn l = record {
-  left : 32 * (l.turn-end - l.turn) ≤ length l.rest;
-  same : lanes_through (l.turn-end - l.turn) l.lanes l.rest ≡ lanes_through l.turn-end l.fn.lanes l.bytes;
-  place : l.rest ≡ drop (32 * l.turn) l.bytes;
+  long : length l.rest + 32 * l.turn ≡ length l.bytes;
+  lanes : all_lanes l.lanes l.rest ≡ all_lanes l.fn.lanes l.bytes;
+  left : left_over l.rest ≡ left_over l.bytes;
 }

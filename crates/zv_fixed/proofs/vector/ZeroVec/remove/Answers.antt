@@ -1,6 +1,6 @@
-use Rattle.std.proofs.Common.{◌≡◌, ℕ, ◌+◌, List, [], get_or, Some, ap, sym, ◌∙◌, arith}
+use Rattle.std.proofs.Common.{◌≡◌, ℕ, ◌+◌, List, [], get_or, Some, ap, refl, sym, ◌∙◌, arith}
 use Rattle.zv_ule.specs.Chunks.{chunks_of}
-use Rattle.zv_fixed.proofs.ChunkEdits.{end_in, chunks_removed, fault_removed, values_removed, value_there}
+use Rattle.zv_fixed.proofs.ChunkEdits.{end_in, removed, values_removed, value_there}
 use Rattle.zv_fixed.proofs.vector.ZeroVec.remove.Goals as goal
 
 pub remove-requires-clause-place : goal.remove-requires-clause-place
@@ -12,9 +12,9 @@ pub invariant_of-self-2 : goal.invariant_of-self-2
 invariant_of-self-2 g c =
     let u = g.T.ULE.ULE in (
       c.self.invariant.0,
-      fault_removed u.width c.args.index _ _ _ _ c.self.invariant.0 (ap (λ v. v.bytes) c.self.view_is) c.start_of-start.ensures.start u.TY u.chunk_fault _
-          (omega (arith, c.requires, c.all_read.ensures.len)) c.self.invariant.1
-          (ap (λ n. c.start_of-start.result + n) c.chunk_at-chunk.ensures.whole) c.in_ok-remove.ensures.ok,
+      (removed u.width c.args.index _ _ _ _ c.self.invariant.0 (ap (λ v. v.bytes) c.self.view_is) c.start_of-start.ensures.start _
+          (omega (arith, c.requires, c.all_read.ensures.len)) (ap (λ n. c.start_of-start.result + n) c.chunk_at-chunk.ensures.whole)
+          c.in_ok-remove.ensures.ok).good u.TY u.chunk_fault refl c.self.invariant.1,
     )
 
 pub returns-clause-removed : goal.returns-clause-removed
@@ -29,8 +29,8 @@ returns-clause-removed g c =
 
 pub returns-clause-chunks : goal.returns-clause-chunks
 returns-clause-chunks g c =
-    chunks_removed g.T.ULE.ULE.width c.args.index _ _ _ _ c.self.invariant.0 (ap (λ v. v.bytes) c.self.view_is) c.start_of-start.ensures.start _
-    (omega (arith, c.requires, c.all_read.ensures.len)) (ap (λ n. c.start_of-start.result + n) c.chunk_at-chunk.ensures.whole) c.in_ok-remove.ensures.ok
+    (removed g.T.ULE.ULE.width c.args.index _ _ _ _ c.self.invariant.0 (ap (λ v. v.bytes) c.self.view_is) c.start_of-start.ensures.start _
+    (omega (arith, c.requires, c.all_read.ensures.len)) (ap (λ n. c.start_of-start.result + n) c.chunk_at-chunk.ensures.whole) c.in_ok-remove.ensures.ok).chunks
 
 pub returns-clause-ok : goal.returns-clause-ok
 returns-clause-ok g c =

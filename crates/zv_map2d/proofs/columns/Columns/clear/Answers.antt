@@ -1,5 +1,3 @@
-use Rattle.std.proofs.Common.{◌∙◌, ap, arith}
-use Rattle.zv_map2d.specs.Views.{Map2d}
 use Rattle.zv_map2d.proofs.Flat.{view_of}
 use Rattle.zv_map2d.proofs.Seen.{columns, none}
 use Rattle.zv_map2d.proofs.columns.Columns.clear.Goals as goal
@@ -13,23 +11,9 @@ pub returns-clause-rows : goal.returns-clause-rows
 returns-clause-rows g c = view_of _ _ _ _ _ (none c.zvl_clear.ensures.list c.remove_all.ensures.values c.zvl_clear-2.ensures.list c.zvl_clear-3.ensures.list)
 
 pub returns-clause-room : goal.returns-clause-room
-returns-clause-room g c =
-    let e = c.self.view_is in
-    record {
-      keys0 = record {
-        owned = c.zvl_clear.ensures.owned ∙ ap (λ (v : Map2d). v.keys0.owned) e;
-        spare = omega (arith, c.zvl_clear.ensures.spare, ap (λ (v : Map2d). v.keys0.spare) e);
-      };
-      joiner = record {
-        owned = c.remove_all.ensures.owned ∙ ap (λ (v : Map2d). v.joiner.owned) e;
-        spare = omega (arith, c.remove_all.ensures.spare, ap (λ (v : Map2d). v.joiner.spare) e);
-      };
-      keys1 = record {
-        owned = c.zvl_clear-2.ensures.owned ∙ ap (λ (v : Map2d). v.keys1.owned) e;
-        spare = omega (arith, c.zvl_clear-2.ensures.spare, ap (λ (v : Map2d). v.keys1.spare) e);
-      };
-      values = record {
-        owned = c.zvl_clear-3.ensures.owned ∙ ap (λ (v : Map2d). v.values.owned) e;
-        spare = omega (arith, c.zvl_clear-3.ensures.spare, ap (λ (v : Map2d). v.values.spare) e);
-      };
-    }
+returns-clause-room g c = rw (← c.self.view_is) (record {
+  keys0 = record { owned = c.zvl_clear.ensures.owned; spare = c.zvl_clear.ensures.spare };
+  joiner = record { owned = c.remove_all.ensures.owned; spare = c.remove_all.ensures.spare };
+  keys1 = record { owned = c.zvl_clear-2.ensures.owned; spare = c.zvl_clear-2.ensures.spare };
+  values = record { owned = c.zvl_clear-3.ensures.owned; spare = c.zvl_clear-3.ensures.spare };
+})

@@ -1,4 +1,4 @@
-use Rattle.std.proofs.Common.{◌⊎◌, ◌<◌, length, inl, inr, refl, Ok, arith}
+use Rattle.std.proofs.Common.{◌⊎◌, ◌<◌, length, inl, inr, refl, arith}
 use Rattle.zv_map.proofs.Places.{placed}
 use Rattle.zv_map.specs.Maps.{keys_of}
 use Rattle.zv_map2d.specs.Rows.{row_at}
@@ -12,14 +12,8 @@ unreachable-requires g c =
     let outside : (length (g.C1.ZeroVecLike.list c.self.inside.keys1) < c.row_end-end.result) ⊎ (c.row_end-end.result < c.row_start-start.result) =
     c.in-None.ensures.none.0 refl in
     elim outside [
-      | inl h ↦ omega (arith, h, within.1, c.row_end-end.ensures)
-      | inr h ↦ omega (
-        arith,
-        h,
-        within.0,
-        c.row_start-start.ensures,
-        c.row_end-end.ensures,
-      )
+      | inl h ↦ omega (arith, within.1, c.row_end-end.ensures)
+      | inr h ↦ omega (arith, within.0, c.row_start-start.ensures, c.row_end-end.ensures)
     ]
 
 pub returns : goal.returns

@@ -1,4 +1,4 @@
-use Rattle.std.proofs.Common.{length, refl, ap, arith}
+use Rattle.std.proofs.Common.{length, refl, ap, arith, rules}
 use Rattle.zv_map2d.proofs.Flat.{pair_within}
 use Rattle.zv_map2d.proofs.Seen.{seen, value_columns, value_rows}
 use Rattle.zv_map2d.proofs.columns.Columns.replace_value.Goals as goal
@@ -14,8 +14,13 @@ invariant_of-self g c =
     c.args.pair c.requires.row c.requires.pair
     c.pair_start-at.ensures (g.R.ZvArg.bytes c.args.value.now) c.replace_in.result c.replace_in.ensures.ok c.replace_in.ensures.err
 
-pub returns-clause-rows : goal.returns-clause-rows
-returns-clause-rows g c =
-    value_rows g.D.ZeroVecLike.list c.self.inside.values c.replace_in.new.list (seen c.self.view_is c.self.invariant) c.args.row c.args.pair c.requires.row
-    c.requires.pair
-    c.pair_start-at.ensures (g.R.ZvArg.bytes c.args.value.now) c.replace_in.result c.replace_in.ensures.ok
+pub returns : goal.returns
+returns g c = record {
+  changes = record {
+    rows = value_rows g.D.ZeroVecLike.list c.self.inside.values c.replace_in.new.list (seen c.self.view_is c.self.invariant) c.args.row c.args.pair
+        c.requires.row c.requires.pair c.pair_start-at.ensures (g.R.ZvArg.bytes c.args.value.now) c.replace_in.result c.replace_in.ensures.ok;
+    before = search rules;
+    err = search rules;
+  };
+  refused = search rules;
+}

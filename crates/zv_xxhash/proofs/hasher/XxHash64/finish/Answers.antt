@@ -1,9 +1,11 @@
-use Rattle.std.proofs.Common.{ap, ◌∙◌, refl}
-use Rattle.zv_xxhash.specs.Digest.{avalanche, with_rest}
-use Rattle.zv_xxhash.proofs.Pieces.{digest_is}
+use Rattle.std.proofs.Common.{◌≡◌, ◌+◌, ◌%◌, ◌^◌, length, arith}
+use Rattle.zv_xxhash.specs.Digest.{opening, plus, xxh64}
 use Rattle.zv_xxhash.proofs.hasher.XxHash64.finish.Goals as goal
 
 pub returns : goal.returns
+unfolding xxh64
 returns c = λ seed written held.
-    c.finish.ensures ∙ ap avalanche (c.add_rest.ensures ∙ ap (with_rest _) c.as_slice.ensures)
-    ∙ digest_is c.args.self.now seed c.opening.result _ written held (c.opening.ensures seed written held) refl
+    let opened = c.opening.ensures seed written held in
+    let sum : (c.opening.result + c.args.self.now.total) % 2 ^ 64 ≡ plus (opening seed written) (length written) = omega (arith, held.total, opened) in
+    let kept = held.kept in
+    cc

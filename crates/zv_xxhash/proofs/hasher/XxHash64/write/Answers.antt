@@ -1,14 +1,15 @@
-use Rattle.std.proofs.Common.{◌∙◌, arith}
-use Rattle.zv_xxhash.proofs.Pieces.{holds_few, holds_many}
+use Rattle.std.proofs.Common.{◌<◌, ◌++◌, length, ◌∙◌, sym, arith, length-append}
+use Rattle.zv_xxhash.proofs.Pieces.{holds_more, lanes_few, left_few, few_flag, many_flag}
 use Rattle.zv_xxhash.proofs.hasher.XxHash64.write.Goals as goal
 
 pub returns-then-bytes-len : goal.returns-then-bytes-len
 returns-then-bytes-len c = λ seed written held.
-    holds_few _ seed _ _ c.args.self.now.pending c.push.new.self written c.args.bytes.now _ held (omega arith) c.push.ensures
+    let both = c.args.self.now.pending ++ c.args.bytes.now in
+    let few : length both < 32 = omega (arith, length-append c.args.self.now.pending c.args.bytes.now) in
+    holds_more c.args.self.now seed written c.args.bytes.now _ _ _ held (sym (lanes_few c.args.self.now.lanes both few))
+    (c.push.ensures ∙ sym (left_few both few)) (few_flag c.args.self.now.is_striped _ (omega arith))
 
 pub returns : goal.returns
 returns c = λ seed written held.
-    holds_many _ seed _ c.args.self.now.lanes c.args.self.now.pending c.replace.new.self
-    c.add_stripes-tail.new.lanes written c.args.bytes.now _ held (omega arith)
-    (c.add_stripes-tail.ensures.lanes ∙ c.complete_stripe-rest.ensures.lanes)
-    (c.replace.ensures ∙ c.add_stripes-tail.ensures.left ∙ c.complete_stripe-rest.ensures.left)
+    holds_more c.args.self.now seed written c.args.bytes.now _ _ _ held (c.add_stripes-tail.ensures.lanes ∙ c.complete_stripe-rest.ensures.lanes)
+    (c.replace.ensures ∙ c.add_stripes-tail.ensures.left ∙ c.complete_stripe-rest.ensures.left) (many_flag c.args.self.now.is_striped _ (omega arith))

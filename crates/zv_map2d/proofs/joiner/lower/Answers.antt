@@ -1,9 +1,0 @@
-use Rattle.std.proofs.Common.{◌-◌, arith}
-use Rattle.zv_map2d.proofs.Splices.{shifted}
-use Rattle.zv_map2d.proofs.joiner.lower.Goals as goal
-
-pub returns : goal.returns
-returns c =
-    let l = c.loop-row.invariant in
-    shifted (λ e. e - 1) c.args.ends.now.values c.loop-row.ends.values c.args.from l.size l.low (λ k a b. l.done k a
-    (omega (arith, b, l.size, c.loop-row-test.false, c.len-row-end.ensures)) b)

@@ -1,0 +1,9 @@
+use Rattle.zv_map2d.proofs.Outcomes.{changes_well}
+use Rattle.zv_map2d.proofs.Well.{put_well}
+use Rattle.zv_map2d.proofs.map.Map2dOver.insert.Goals as goal
+
+pub invariant_of-self : goal.invariant_of-self
+invariant_of-self g c =
+    let after = put_well g.met.K0.ZvOrd.total g.met.K1.ZvOrd.total c.self.inside.columns.rows (g.Q0.ZvArg.bytes c.args.key0.now) c.self.invariant
+    (g.Q1.ZvArg.bytes c.args.key1.now) (g.R.ZvArg.bytes c.args.value.now) in
+    changes_well g.K0.ZvOrd.cmp g.K1.ZvOrd.cmp c.insert.result c.insert.ensures.changes after c.self.invariant

@@ -1,0 +1,222 @@
+-- Worked rows of the definitions, computed.
+use Rattle.std.proofs.Common.{◌≡◌, ◌∷◌, [], ◌++◌, ℕ, List, length, refl, codes, Ok, Err, Some, None, true, false}
+use Rattle.std.specs.Str.{is_utf8, chars}
+use Rattle.std.specs.Fmt.{digits}
+use Rattle.std.specs.Prelude.{filter, map, replicate}
+use Rattle.hex.specs.Hex.{decode_pairs, encode_with}
+use Rattle.zv_ule.specs.declared.error.TyName.TheVariants.{RawBytes4, VarZeroSlice}
+use Rattle.zv_ule.specs.declared.error.UleError.TheVariants.{InvalidLength, ParseError}
+use Rattle.zv_map2d.specs.declared.error.EditError.TheVariants.{Frame, Ule, Keys0Joiner, Keys1Values, JoinerOrder, JoinerEnd, KeyOrder}
+use Rattle.zv_map2d.specs.Image.{canon}
+use Rattle.zv_map2d.specs.Locales.{locales}
+use Rattle.zv_map2d.specs.Rows.{Rows, ends}
+use Rattle.zv_tool.specs.declared.command.Command.{Command}
+use Rattle.zv_tool.specs.declared.command.Command.TheVariants.{Get, Put, Del, Row}
+use Rattle.zv_tool.specs.declared.commands.TheConstants.{MAX_COMMANDS}
+use Rattle.zv_tool.specs.declared.input.TheConstants.{MAX_INPUT}
+use Rattle.zv_tool.specs.declared.status.Status.{Status}
+use Rattle.zv_tool.specs.declared.status.Status.TheVariants.{Done, Usage, ReadFault, TooLong, BadLine, BadImage, Memory, WriteFault}
+use Rattle.zv_tool.specs.Answers.{answers, last, replies, reply_lines}
+use Rattle.zv_tool.specs.Commands.{total_size}
+use Rattle.zv_tool.specs.Input.{lines, words, field, key, parse_input}
+use Rattle.zv_tool.specs.Output.{some, missing, added, old, too_large, pairs, text, image_line, bad_line, cause_line, usage_line}
+use Rattle.zv_tool.specs.Program.{is_edit, is_answer, is_written, is_silent, code_of}
+
+-- LF
+abbrev lf : List ℕ
+lf = 10 ∷ []
+
+-- keys of one letter
+abbrev a : List ℕ
+a = codes "a"
+
+abbrev b : List ℕ
+b = codes "b"
+
+abbrev c : List ℕ
+c = codes "c"
+
+-- ---- lines, words, fields
+
+lines_of_inputs : map lines ((codes "a" ++ lf ++ lf ++ codes "b") ∷ (codes "a" ++ lf) ∷ lf ∷ [] ∷ [])
+    ≡ (a ∷ [] ∷ b ∷ []) ∷ (a ∷ []) ∷ ([] ∷ []) ∷ [] ∷ []
+lines_of_inputs = refl
+
+words_of_two_spaces : words (codes "get  x") ≡ codes "get" ∷ [] ∷ codes "x" ∷ []
+words_of_two_spaces = refl
+
+-- digits in either case, none, an odd number, a wrong one, and no mark
+fields : map field (codes "x0aFf" ∷ codes "x" ∷ codes "x0" ∷ codes "x0g" ∷ codes "00" ∷ []) ≡ Some (10 ∷ 255 ∷ []) ∷ Some [] ∷ None ∷ None ∷ None ∷ []
+unfolding decode_pairs
+fields = refl
+
+-- two letters, and bytes that are no UTF-8
+keys : map key (codes "x6162" ∷ codes "xff" ∷ []) ≡ Some (codes "ab") ∷ None ∷ []
+unfolding decode_pairs is_utf8 chars lib.Utf8.encode
+keys = refl
+
+-- ---- inputs
+
+-- an image; a look-up; a last line without LF; every command, and a value that is no UTF-8; nothing; two spaces on line 3; a CR
+inputs : List (List ℕ)
+inputs =
+    (codes "x00ff" ++ lf)
+    ∷ (codes "x00" ++ lf ++ codes "get x61 x62" ++ lf)
+    ∷ (codes "x00" ++ lf ++ codes "get x61 x")
+    ∷ (codes "x00" ++ lf ++ codes "put x61 x xfF" ++ lf ++ codes "del x61 x62" ++ lf ++ codes "row x61" ++ lf)
+    ∷ []
+    ∷ (codes "x00" ++ lf ++ codes "get x61 x62" ++ lf ++ codes "get  x61 x62" ++ lf)
+    ∷ (codes "x00" ++ 13 ∷ lf)
+    ∷ []
+
+parsed : map parse_input inputs
+    ≡ Ok (0 ∷ 255 ∷ [], [])
+    ∷ Ok (0 ∷ [], Get a b ∷ [])
+    ∷ Ok (0 ∷ [], Get a [] ∷ [])
+    ∷ Ok (0 ∷ [], Put a [] (255 ∷ []) ∷ Del a b ∷ Row a ∷ [])
+    ∷ Err 1 ∷ Err 3 ∷ Err 1 ∷ []
+unfolding inputs parse_input decode_pairs is_utf8 chars lib.Utf8.encode
+parsed = refl
+
+-- lines that are no commands: an empty one, one with another word, those with a word too few or too many, and those with half a
+-- byte, or with bytes for a key that are no UTF-8
+bad_lines : List (List ℕ)
+bad_lines = [] ∷ codes "set x61 x62" ∷ codes "get x61" ∷ codes "put x61 x62" ∷ codes "put x61 x62 x01 x02" ∷ codes "del x61" ∷ codes "row x61 x62"
+    ∷ codes "put x61 x62 x0" ∷ codes "get xff x62" ∷ codes "row xff" ∷ []
+
+bad_second_lines : map (λ line. parse_input (codes "x00" ++ lf ++ line ++ lf)) bad_lines ≡ replicate 10 (Err 2)
+unfolding bad_lines parse_input decode_pairs is_utf8 chars lib.Utf8.encode
+bad_second_lines = refl
+
+-- ---- output
+
+reply_texts : map text (some (1 ∷ 171 ∷ []) ∷ missing ∷ added ∷ old [] ∷ too_large ∷ pairs ((b, 2 ∷ []) ∷ ([], []) ∷ []) ∷ [])
+    ≡ map (λ t. t ++ lf) (codes "some x01ab" ∷ codes "none" ∷ codes "new" ∷ codes "old x" ∷ codes "toolarge" ∷ codes "row x62 x02 x x" ∷ [])
+unfolding encode_with
+reply_texts = refl
+
+other_texts : image_line (0 ∷ 255 ∷ []) ∷ bad_line 12 ∷ usage_line ∷ []
+    ≡ map (λ t. t ++ lf) (codes "image x00ff" ∷ codes "error line 12" ∷ codes "usage: zv COMMAND" ∷ [])
+unfolding digits encode_with
+other_texts = refl
+
+cause_texts : map cause_line (Frame ∷ Ule (InvalidLength RawBytes4 3) ∷ Ule (ParseError VarZeroSlice) ∷ Keys0Joiner ∷ Keys1Values ∷ JoinerOrder
+    ∷ JoinerEnd ∷ KeyOrder ∷ [])
+    ≡ map (λ word. codes "error " ++ word ++ lf) (codes "frame" ∷ codes "length" ∷ codes "parse" ∷ codes "keys0joiner" ∷ codes "keys1values"
+    ∷ codes "joinerorder" ∷ codes "joinerend" ∷ codes "keyorder" ∷ [])
+cause_texts = refl
+
+-- ---- words, sizes, limits and statuses
+
+edits : map is_edit ((codes "edit" ∷ []) ∷ (codes "edit" ∷ codes "more" ∷ []) ∷ [] ∷ []) ≡ true ∷ false ∷ false ∷ []
+edits = refl
+
+sizes : total_size (Get a (codes "bc") ∷ Get [] [] ∷ Put a [] (1 ∷ 2 ∷ []) ∷ Del [] b ∷ Row (codes "ab") ∷ []) ≡ 14
+sizes = refl
+
+limits : MAX_INPUT ∷ MAX_COMMANDS ∷ [] ≡ 16777216 ∷ 16777216 ∷ []
+limits = refl
+
+-- every status, in the order of the program's checks
+abbrev statuses : List Status
+statuses = Done ∷ Usage ∷ ReadFault ∷ TooLong ∷ BadLine ∷ BadImage ∷ Memory ∷ WriteFault ∷ []
+
+codes_of_statuses : map code_of statuses ≡ 0 ∷ 1 ∷ 2 ∷ 3 ∷ 4 ∷ 5 ∷ 6 ∷ 7 ∷ []
+codes_of_statuses = refl
+
+statuses_that_say : map (λ says. filter says statuses) (is_answer ∷ is_written ∷ is_silent ∷ [])
+    ≡ (Done ∷ BadLine ∷ BadImage ∷ []) ∷ (Done ∷ Usage ∷ BadLine ∷ BadImage ∷ []) ∷ (ReadFault ∷ TooLong ∷ Memory ∷ []) ∷ []
+statuses_that_say = refl
+
+-- ---- whole answers
+
+-- the map of one pair
+abbrev ab : Rows
+ab = (a, (b, 1 ∷ []) ∷ []) ∷ []
+
+-- two rows of one pair
+abbrev two_rows : Rows
+two_rows = (a, (codes "z", 1 ∷ []) ∷ []) ∷ (b, (a, 2 ∷ []) ∷ []) ∷ []
+
+-- of no commands; a first pair; another value; a pair that is removed twice; a row; empty fields
+whole_answers : answers [] [] ∷ answers [] (Put a b (1 ∷ []) ∷ []) ∷ answers ab (Put a b (2 ∷ 2 ∷ []) ∷ []) ∷ answers ab (Del a b ∷ Del a b ∷ [])
+    ∷ answers two_rows (Row b ∷ []) ∷ answers [] (Put [] [] [] ∷ []) ∷ []
+    ≡ (codes "image x0000000000000000000000000000000000000000000000000000000000000000" ++ lf)
+    ∷ (codes "new" ++ lf ++ codes "image x030000000000000001006104000000000000000100000003000000000000000100620300000000000000010001" ++ lf)
+    ∷ (codes "old x01" ++ lf ++ codes "image x03000000000000000100610400000000000000010000000300000000000000010062040000000000000001000202" ++ lf)
+    ∷ (codes "old x01" ++ lf ++ codes "none" ++ lf ++ codes "image x0000000000000000000000000000000000000000000000000000000000000000" ++ lf)
+    ∷ (codes "row x61 x02" ++ lf
+    ++ codes "image x0600000000000000020001006162080000000000000001000000020000000600000000000000020001007a610600000000000000020001000102" ++ lf)
+    ∷ (codes "new" ++ lf ++ codes "image x02000000000000000100040000000000000001000000020000000000000001000200000000000000" ++ codes "0100" ++ lf)
+    ∷ []
+unfolding encode_with
+whole_answers = refl
+
+-- ---- replies, each on the map that the earlier commands leave
+
+in_turn : reply_lines [] (Put a c (1 ∷ 2 ∷ []) ∷ Put a b [] ∷ Row a ∷ Get a b ∷ Del a c ∷ Row a ∷ Row b ∷ [])
+    ≡ codes "new" ++ lf ++ codes "new" ++ lf ++ codes "row x62 x x63 x0102" ++ lf ++ codes "some x" ++ lf
+    ++ codes "old x0102" ++ lf ++ codes "row x62 x" ++ lf ++ codes "none" ++ lf
+unfolding encode_with
+in_turn = refl
+
+-- a pair whose row is there, and one whose row isn't
+no_such_pair : replies ab (Get a c ∷ Get b b ∷ Del a c ∷ Del b b ∷ []) ≡ missing ∷ missing ∷ missing ∷ missing ∷ []
+no_such_pair = refl
+
+-- of 28 locales
+of_locales : List Command
+of_locales = Get (codes "sd") (codes "Khoj") ∷ Row (codes "ku") ∷ Del (codes "zh") (codes "Bopo") ∷ Put (codes "en") (codes "Latn") (codes "US") ∷ []
+
+locale_replies : replies locales of_locales
+    ≡ some (codes "IN") ∷ pairs ((codes "Arab", codes "IQ") ∷ (codes "Yezi", codes "GE") ∷ []) ∷ old (codes "TW") ∷ added ∷ []
+unfolding of_locales
+locale_replies = refl
+
+locale_ends : ends (last locales of_locales) ≡ 2 ∷ 3 ∷ 4 ∷ 6 ∷ 7 ∷ 8 ∷ 9 ∷ 11 ∷ 13 ∷ 14 ∷ 15 ∷ 16 ∷ 17 ∷ 18 ∷ 21 ∷ 22 ∷ 23 ∷ 24 ∷ 25 ∷ 26 ∷ 28 ∷ []
+unfolding of_locales
+locale_ends = refl
+
+locale_image : length (canon (last locales of_locales)) ≡ 487
+unfolding of_locales
+locale_image = refl
+
+-- ---- values that do not fit
+
+-- as many bytes as a value can have, of one kind
+abbrev longest : ℕ → List ℕ
+longest byte = replicate 65534 byte
+
+-- a full list of values takes no other, and a value gives way to one of its length
+abbrev full_values : List Command
+full_values = Put a b (longest 0) ∷ Put a c (1 ∷ []) ∷ Put a b (longest 1) ∷ Put a b (2 ∷ []) ∷ []
+
+full_values_replies : replies [] full_values ≡ added ∷ too_large ∷ old (longest 0) ∷ old (longest 1) ∷ []
+full_values_replies = refl
+
+full_values_left : last [] full_values ≡ (a, (b, 2 ∷ []) ∷ []) ∷ []
+full_values_left = refl
+
+-- a byte more than a value can have
+one_byte_more : replies [] (Put a b (0 ∷ longest 0) ∷ []) ≡ too_large ∷ []
+one_byte_more = refl
+
+-- a value that does not fit leaves no row behind
+no_empty_row : replies [] (Put a b (longest 0) ∷ Put c (codes "d") (1 ∷ []) ∷ Row c ∷ []) ≡ added ∷ too_large ∷ missing ∷ []
+no_empty_row = refl
+
+no_empty_row_image : length (canon (last [] (Put a b (longest 0) ∷ Put c (codes "d") (1 ∷ []) ∷ []))) ≡ 65578
+no_empty_row_image = refl
+
+-- a value longer than any that can be put is read, is not put back, and gives way
+oversized : List ℕ
+oversized = replicate 70000 7
+
+oversized_replies : replies ((a, (b, oversized) ∷ []) ∷ []) (Get a b ∷ Put a b oversized ∷ Put a b (1 ∷ 2 ∷ 3 ∷ []) ∷ [])
+    ≡ some oversized ∷ too_large ∷ old oversized ∷ []
+unfolding oversized
+oversized_replies = refl
+
+oversized_gone : length (canon (last ((a, (b, oversized) ∷ []) ∷ []) (Put a b (1 ∷ 2 ∷ 3 ∷ []) ∷ []))) ≡ 47
+unfolding oversized
+oversized_gone = refl
