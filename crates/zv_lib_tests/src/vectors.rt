@@ -43,7 +43,8 @@ fn make_change<F: VarZeroVecFormat>(
         }
         Change::Remove(index) => {
             assert!(rt; *index < list.len());
-            Ok(list.remove_anew(*index)?)
+            list.remove(*index);
+            Ok(())
         }
     }
 }

@@ -277,7 +277,7 @@ impl<'a, T: ZvKind, F: MapForm> MutableZeroVecLike<'a, T> for VarZeroVec<'a, T, 
 
     fn zvl_remove(&mut self, alloc: Global, index: usize) -> Result<VarBox<T>, NoMemory> {
         let old = boxed_at(self, alloc, index)?;
-        self.remove_anew(alloc, index)?;
+        self.remove(alloc, index)?;
         Ok(old)
     }
 }

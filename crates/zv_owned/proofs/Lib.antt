@@ -1,7 +1,10 @@
 pub mod Codable
+pub mod Gaps
 pub mod Offsets
-pub mod Pieces
 pub mod Pushes
+pub mod Shifts
 pub mod SizeRule
-pub mod Splices
+pub mod Spliced
+pub mod StartChanges
 pub mod Starts
+pub mod Written

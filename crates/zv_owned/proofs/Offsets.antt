@@ -1,10 +1,13 @@
 -- Where the elements of a list start.
-use Rattle.std.proofs.Common.{◌≡◌, ℕ, zero, suc, ◌+◌, ◌-◌, ◌^◌, ◌<◌, ◌≤◌, List, [], ◌∷◌, ◌++◌, length, take, drop, get_or, ap, ◌∙◌, sym, arith, length-append}
+use Rattle.std.proofs.Common.{◌≡◌, ℕ, zero, suc, ◌+◌, ◌-◌, ◌*◌, ◌^◌, ◌<◌, ◌≤◌, List, [], ◌∷◌, ◌++◌, length, take, drop, get_or, ap, ◌∙◌, sym, arith}
+use Rattle.std.proofs.Common.{length-append}
 use Rattle.std.proofs.Common.{append_assoc, subst}
-use Rattle.std.proofs.lemmas.List.{at_drop_more}
-use Rattle.std.specs.List.{concat, flat_map, AllByRecursion}
-use Rattle.zv_ule.specs.Bytes.{le}
-use Rattle.zv_var.specs.Format.{starts_from}
+use Rattle.std.proofs.Math.Nat.{mul-zero, suc-mul}
+use Rattle.std.proofs.lemmas.List.{take-append-drop, take_all, take_at}
+use Rattle.std.proofs.lemmas.List.Folds.{concat-append}
+use Rattle.std.specs.List.{concat}
+use Rattle.zv_var.proofs.Encoding.{length-enc}
+use Rattle.zv_var.specs.Format.{Part}
 
 -- where an element starts among the bytes of all elements, and for the place after the last one where it ends
 abbrev pub offset_of : List (List ℕ) → ℕ → ℕ
@@ -30,29 +33,68 @@ offset_rises (x ∷ xs) (suc a) (suc b) h = omega (
   offset_rises xs a b (omega arith),
 )
 
--- The elements from place p on, where that one starts at r, if the one from place `first` on, which starts at `base`, is to start at `start`.
-module _ (w : ℕ) (xs : List (List ℕ)) (first base start p count r : ℕ) (at : base ≡ offset_of xs first) (here : r ≡ offset_of xs p) (order : first ≤ p)
-    (test : p < count) (all : count ≡ length xs) where
-  abbrev later_starts : ℕ → List ℕ
-  later_starts k = starts_from (start + (offset_of xs k - base)) (drop k xs)
+-- A list in three parts, by the offsets that the code asks for: n elements, and b and o bytes before places i and j.
+pub record IsParted (xs front gone back : List (List ℕ)) (n i j b o : ℕ) : Type 0 where
+  pub is : xs ≡ front ++ (gone ++ back)
+  pub first : length front ≡ i
+  pub second : length gone ≡ j - i
+  pub order : i ≤ j
+  pub before : b ≡ offset_of xs i
+  pub end : o ≡ offset_of xs j
+  pub count : n ≡ length xs
 
-  pub shift_positive : base ≤ r
-  shift_positive = rw (at, here) (offset_rises xs first p order)
+module _ {xs front gone back : List (List ℕ)} {n i j b o : ℕ} (p : IsParted xs front gone back n i j b o) where
+  pub count_parted : length front + (length gone + length back) ≡ n
+  count_parted = omega (arith, p.count, ap length p.is, length-append front (gone ++ back), length-append gone back)
 
-  later : later_starts p ≡ (start + (r - base)) ∷ later_starts (p + 1)
-  later =
-      let s : ℕ = start + (offset_of xs p - base) in
-      let k : p < length xs = omega (arith, test, all) in
-      let e : s + length (get_or xs p []) ≡ start + (offset_of xs (p + 1) - base) = omega (arith, offset_more xs p k, shift_positive, here) in
-      at_drop_more (λ (l : List (List ℕ)). starts_from s l) xs p [] k
-      ∙ (ap (λ (k : ℕ). s ∷ starts_from k (drop (p + 1) xs)) e ∙ ap (λ (o : ℕ). (start + (o - base)) ∷ later_starts (p + 1)) (sym here))
+  pub before_parted : length (concat front) ≡ b
+  before_parted = sym (p.before ∙ ap (λ (l : List (List ℕ)). length (concat l)) (ap (λ (l : List (List ℕ)). take i l) p.is
+      ∙ take_at front (gone ++ back) i p.first))
 
-  pub next_fits : AllByRecursion (λ s. s < 256 ^ w) (later_starts p) → (start + (r - base) < 256 ^ w) × AllByRecursion (λ s. s < 256 ^ w) (later_starts (p + 1))
-  next_fits f = let P : List ℕ → Type 0 = λ l. AllByRecursion (λ s. s < 256 ^ w) l in subst P later f
+  pub gone_parted : length (concat gone) ≡ o - b
+  gone_parted =
+      let t : take j xs ≡ front ++ gone = ap (λ (l : List (List ℕ)). take j l) (p.is ∙ sym (append_assoc front gone back))
+      ∙ take_at (front ++ gone) back j (omega (arith, length-append front gone, p.first, p.second, p.order)) in
+      omega (
+        arith,
+        before_parted,
+        p.end,
+        ap (λ (l : List (List ℕ)). length (concat l)) t,
+        ap length (concat-append front gone),
+        length-append (concat front) (concat gone),
+      )
 
-  pub one_more : (old new whole : List ℕ) → old ++ flat_map (le w) (later_starts p) ≡ whole → new ≡ old ++ le w (start + (r - base)) →
-      new ++ flat_map (le w) (later_starts (p + 1)) ≡ whole
-  one_more old new whole h e =
-      let s : List ℕ = le w (start + (r - base)) in
-      let m : List ℕ = flat_map (le w) (later_starts (p + 1)) in
-      ap (λ (l : List ℕ). l ++ m) e ∙ (append_assoc old s m ∙ (sym (ap (λ (l : List ℕ). old ++ flat_map (le w) l) later) ∙ h))
+-- the fields and the bytes before a place lie in the list's bytes
+pub offset_within : (w : ℕ) (b : List ℕ) (xs : List (List ℕ)) (n i o : ℕ) → Part w b xs → length b < 2 ^ 63 → n ≡ length xs → o ≡ offset_of xs i →
+    w * n + o < 2 ^ 63
+offset_within w b [] n i o p h en eo = omega (
+  arith,
+  ap (λ (n : ℕ). w * n) en,
+  mul-zero w,
+  ap (λ (l : List (List ℕ)). length (concat l)) (take_all i [] (omega arith)),
+)
+offset_within w b (x ∷ xs) n i o p h en eo =
+    let m : n ≡ length xs + 1 = omega arith in
+    omega (
+      arith,
+      ap length p.1,
+      length-enc w x xs,
+      ap (λ (n : ℕ). w * n) m,
+      eo,
+      ap length (sym (concat-append (take i (x ∷ xs)) (drop i (x ∷ xs)))),
+      ap (λ (l : List (List ℕ)). length (concat l)) (take-append-drop i (x ∷ xs)),
+      length-append (concat (take i (x ∷ xs))) (concat (drop i (x ∷ xs))),
+    )
+
+pub one_gone : (P : List (List ℕ) → Type 0) (gone : List (List ℕ)) → length gone ≡ 1 → ((y : List ℕ) → P (y ∷ [])) → P gone
+one_gone P [] e h = absurd (omega arith)
+one_gone P (y ∷ []) e h = h y
+one_gone P (y ∷ z ∷ l) e h = absurd (omega arith)
+
+-- a list has no more elements than its bytes
+pub count_within : (w : ℕ) (b : List ℕ) (xs : List (List ℕ)) → 0 < w → Part w b xs → length xs ≤ length b
+count_within w b [] h p = omega arith
+count_within w b (x ∷ xs) h p = omega (arith, ap length p.1, length-enc w x xs, at_least w (length xs + 1) h) where
+  at_least : (w n : ℕ) → 0 < w → n ≤ w * n
+  at_least zero n h = absurd (omega arith)
+  at_least (suc w) n h = omega (arith, suc-mul w n)

@@ -1,9 +1,10 @@
 -- What the code asks of a list's size, and what a change that it takes leaves.
 use Rattle.std.proofs.Common.{◌≡◌, ℕ, suc, ◌+◌, ◌-◌, ◌<◌, ◌≤◌, Bool, true, false, ◌&&◌, ◌==◌, nat_lt, nat_le, List, [], ◌∷◌, ◌++◌, length, take, drop}
-use Rattle.std.proofs.Common.{get_or, set, refl, ap, ◌∙◌, sym, arith, Option, None}
+use Rattle.std.proofs.Common.{get_or, slice_index_or, length-append, set, refl, ap, ◌∙◌, sym, arith, Option, None}
 use Rattle.std.proofs.lemmas.Bool.{and_parts}
 use Rattle.std.proofs.lemmas.List.Elements.{All-append, All-drop, All-from_recursion, All-take, recursion_from_All}
-use Rattle.std.specs.List.{remove, splice}
+use Rattle.std.proofs.lemmas.List.{at_drop_more}
+use Rattle.std.specs.List.{concat, remove, splice}
 use Rattle.zv_ule.specs.declared.error.UleError.{UleError}
 use Rattle.zv_var.specs.Format.{Part, codable, elements, enc, list_fault}
 use Rattle.zv_var.specs.Laws.{AreValid}
@@ -77,6 +78,13 @@ splice_set xs i e h = let k : i + 1 ≡ suc i = omega arith in ap (λ (j : ℕ).
 
 pub splice_remove : (xs : List (List ℕ)) (i : ℕ) → splice xs i (i + 1) [] ≡ remove xs i
 splice_remove xs i = let k : i + 1 ≡ suc i = omega arith in ap (λ (j : ℕ). take i xs ++ drop j xs) k
+
+-- what a replacement takes the place of
+pub replaced_length : (xs : List (List ℕ)) (i : ℕ) → i < length xs → length (slice_index_or xs i []) ≡ length (concat (take (i + 1 - i) (drop i xs)))
+replaced_length xs i h =
+    let k : i + 1 - i ≡ 1 = omega arith in
+    sym (ap (λ (n : ℕ). length (concat (take n (drop i xs)))) k ∙ (at_drop_more (λ l. length (concat (take 1 l))) xs i [] h
+    ∙ (length-append (get_or xs i []) [] ∙ omega arith)))
 
 pub splice_valid : (K : List ℕ → Option UleError) (xs new : List (List ℕ)) (i j : ℕ) → AreValid K xs → AreValid K new → AreValid K (splice xs i j new)
 splice_valid K xs new i j v u =

@@ -1,4 +1,6 @@
+pub mod Changes
 pub mod Examples
+pub mod Gaps
 pub mod Laws
 pub mod Lending
 pub mod Owned

@@ -5,16 +5,18 @@
 //! [`Shelf`](shelf::Shelf) is a buffer of bytes that counts what is written into it.
 #![tactic(auto)]
 
-mod changes;
-mod encode;
+mod edits;
 mod encoded;
 pub mod error;
 pub mod laws;
+mod moves;
 pub mod owned;
 pub mod shelf;
 mod size;
+mod splice;
 pub mod vector;
+mod writes;
 
 pub use error::VecError;
-pub use owned::VarZeroVecOwned;
+pub use owned::{Change, VarZeroVecOwned};
 pub use vector::{VarZeroVec, VarZeroVec16, VarZeroVec32};

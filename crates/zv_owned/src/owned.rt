@@ -1,26 +1,33 @@
 // A list in a format that owns its bytes.
 ghost use Rattle.std.specs.Prelude.{◌≡◌, ℕ, ◌==◌, ◌∷◌, ◌++◌, ◌&&◌, ◌+◌, ◌^◌, ◌<◌, ◌≤◌, ◌↔◌};
 ghost use Rattle.std.specs.Prelude.{[], length, set, slice_index_or, Option, None};
-ghost use Rattle.std.specs.Prelude.{IsTrue, IfOk, OnOk, OnErr, IfSome, IsNone};
-ghost use Rattle.std.specs.List.{insert, remove, slice_get};
-ghost use Rattle.std.specs.Option.{option_map};
+ghost use Rattle.std.specs.Prelude.{IsTrue, IfOk, IsOk, OnOk, OnErr, IfSome, IsNone, List, Some};
+ghost use Rattle.std.specs.Prelude.{◌-◌, ◌*◌, drop, take, true};
+ghost use Rattle.std.specs.List.{concat, insert, remove, slice_get, splice};
+ghost use Rattle.std.specs.Option.{ForSome, option_map};
 ghost use Rattle.zv_ule.specs.Search.{Found, FoundIn, IsOutside, compared};
 ghost use Rattle.zv_ule.specs.Views.{element_of};
-ghost use Rattle.zv_var.specs.Format.{enc, elements, list_fault};
+ghost use Rattle.zv_var.specs.Format.{codable, enc, elements, list_fault};
 ghost use Rattle.zv_var.specs.Iters.{left_of};
 ghost use Rattle.zv_var.specs.Views.{bytes_of, list_of};
+ghost use Rattle.zv_owned.specs.Changes.{HasPlace, IsBelow, OnMemory, change_steps, changed};
+ghost use Rattle.zv_owned.specs.Changes.{fits_change, takes_change};
 ghost use Rattle.zv_owned.specs.Owned.{TooLargeUnless};
-ghost use Rattle.zv_owned.specs.Size.{takes_insert, takes_replace};
+ghost use Rattle.zv_owned.specs.Size.{max_of, takes_insert, takes_replace};
+ghost use Rattle.zv_owned.specs.Splices.{most_steps, new_bytes, new_elements};
 
-use crate::changes::{insert_into, remove_from, replace_in};
 use crate::encoded::Encoded;
 use crate::error::VecError;
+use crate::shelf::Shelf;
 use crate::size::{takes_insert, takes_replace};
+use crate::splice::splice;
 use std::alloc::Global;
-use std::marker::{Model, PhantomData};
+use std::marker::{Brand, Model, PhantomData};
 use std::ops::Range;
+use std::sync::ledger::{Blank, Ledger};
 use zv_ule::{
-    EncodeAsVarULE, NoMemory, VarRef, VarULE, VarZeroVecFormat, ZvArg, ZvKind, ZvOrd, ZvOrdArg,
+    EncodeAsVarULE, NoMemory, Steps, VarRef, VarULE, VarZeroVecFormat, ZvArg, ZvKind, ZvOrd,
+    ZvOrdArg,
 };
 use zv_var::iter::VarZeroSliceIter;
 use zv_var::slice::VarZeroSlice;
@@ -31,8 +38,9 @@ use zv_var::slice::VarZeroSlice;
 /// After a change the bytes are the encoding of the changed list, whatever they were before: a list
 /// that was given in other bytes of the same list is written as any other.
 ///
-/// Each change writes the new encoding into memory of its own, from the old bytes, and drops the
-/// old. Its cost is that of copying the list once.
+/// A change is made in the memory that the bytes lie in, and asks for more only where the bytes
+/// grow by more than the spare. It writes and moves what stands after the place, and the starts
+/// there.
 ///
 /// # The size rule
 /// An element is below `F::MAX` bytes. One that joins a list that is not empty must leave the whole
@@ -41,25 +49,24 @@ use zv_var::slice::VarZeroSlice;
 /// if it was given with it.
 #[derive(Drop)]
 pub struct VarZeroVecOwned<T: ZvKind, F: VarZeroVecFormat> {
-    bytes: Vec<u8>,
+    shelf: Shelf,
     of: PhantomData<(T, F)>,
 }
 
 impl<T: ZvKind, F: VarZeroVecFormat> Model for VarZeroVecOwned<T, F> {
-    ghost use Rattle.std.specs.Prelude.{◌≡◌, ◌-◌, None, IsTrue};
-    ghost use Rattle.std.specs.Vec.{vec_capacity, vec_len};
+    ghost use Rattle.std.specs.Prelude.{◌≡◌, None, IsTrue};
     ghost use Rattle.zv_var.specs.Format.{elements, list_fault};
     ghost use Rattle.zv_owned.specs.Owned.{Owned};
 
     ghost Value = { Owned };
 
     ghost view = { λ v. record {
-      list = elements F.W v.bytes.items;
-      bytes = v.bytes.items;
-      spare = vec_capacity v.bytes - vec_len v.bytes;
+      list = elements F.W v.shelf.bytes;
+      bytes = v.shelf.bytes;
+      spare = v.shelf.spare;
     } };
 
-    ghost invariant = { λ v. IsTrue T.usable × (list_fault F.W T.fault v.bytes.items ≡ None) };
+    ghost invariant = { λ v. IsTrue T.usable × (list_fault F.W T.fault v.shelf.bytes ≡ None) };
 }
 
 impl<T: ZvKind, F: VarZeroVecFormat> VarZeroVecOwned<T, F> {
@@ -69,23 +76,10 @@ impl<T: ZvKind, F: VarZeroVecFormat> VarZeroVecOwned<T, F> {
         requires { IsTrue T.usable }
         ensures list { result.list ≡ [] }
         ensures bytes { result.bytes ≡ [] }
+        ensures spare { result.spare ≡ 0 }
     {
         VarZeroVecOwned {
-            bytes: Vec::new(alloc),
-            of: PhantomData,
-        }
-    }
-
-    /// The list that bytes are known to be.
-    #[inline]
-    pub(crate) fn of_valid(bytes: Vec<u8>) -> Self
-        requires usable { IsTrue T.usable }
-        requires spells { list_fault F.W T.fault bytes.items ≡ None }
-        ensures list { result.list ≡ elements F.W bytes.items }
-        ensures bytes { result.bytes ≡ bytes.items }
-    {
-        VarZeroVecOwned {
-            bytes,
+            shelf: Shelf::new(alloc),
             of: PhantomData,
         }
     }
@@ -96,8 +90,24 @@ impl<T: ZvKind, F: VarZeroVecFormat> VarZeroVecOwned<T, F> {
         ensures list { IfOk result (λ v. v.list ≡ list_of slice.entry) }
         ensures bytes { IfOk result (λ v. v.bytes ≡ bytes_of slice.entry) }
     {
-        let bytes = Vec::from_slice(alloc, slice.as_bytes())?;
-        Ok(VarZeroVecOwned::of_valid(bytes))
+        VarZeroVecOwned::with_copy(alloc, slice, 0)
+    }
+
+    /// A copy of a list, byte for byte, with a spare of `more` bytes.
+    pub(crate) fn with_copy(
+        alloc: Global,
+        slice: VarZeroSlice<'_, T, F>,
+        more: usize,
+    ) -> Result<Self, NoMemory>
+        ensures list { IfOk result (λ v. v.list ≡ list_of slice.entry) }
+        ensures bytes { IfOk result (λ v. v.bytes ≡ bytes_of slice.entry) }
+        ensures spare { IfOk result (λ v. v.spare ≡ more) }
+    {
+        let shelf = Shelf::with_copy(alloc, slice.as_bytes(), more)?;
+        Ok(VarZeroVecOwned {
+            shelf,
+            of: PhantomData,
+        })
     }
 
     /// The list, read in place.
@@ -106,7 +116,7 @@ impl<T: ZvKind, F: VarZeroVecFormat> VarZeroVecOwned<T, F> {
         ensures bytes { bytes_of result ≡ self.now.bytes }
         ensures list { list_of result ≡ self.now.list }
     {
-        VarZeroSlice::of_valid(&self.bytes)
+        VarZeroSlice::of_valid(self.shelf.bytes())
     }
 
     /// The list's bytes.
@@ -115,7 +125,7 @@ impl<T: ZvKind, F: VarZeroVecFormat> VarZeroVecOwned<T, F> {
         ensures bytes { result.now ≡ self.now.bytes }
         ensures spells { list_fault F.W T.fault result.now ≡ None }
     {
-        &self.bytes
+        self.shelf.bytes()
     }
 
     /// How many elements there are.
@@ -169,6 +179,206 @@ impl<T: ZvKind, F: VarZeroVecFormat> VarZeroVecOwned<T, F> {
         takes_replace(self.as_slice(), index, len)
     }
 
+    /// The elements from `start` up to `end`, one at most, give way to what is written for a value,
+    /// or to nothing.
+    fn splice<Q: ZvArg<T>, L: Ledger>(
+        &mut self,
+        start: usize,
+        end: usize,
+        value: Option<&Q>,
+        steps: &mut Steps<L>,
+    ) -> Result<(), NoMemory>
+        requires order { start ≤ end }
+        requires one { end ≤ start + 1 }
+        requires inside { end ≤ length self.old.list }
+        requires change { start ≡ end → value ≡ None → ⊥ }
+        requires short { ForSome value (λ v. length (Q.bytes v.now) < max_of F.W) }
+        requires codable { codable F.W
+            (splice self.old.list start end (new_elements Q.bytes value)) ≡ true }
+        ensures list { OnOk result (self.new.list ≡
+            splice self.old.list start end (new_elements Q.bytes value.entry)) }
+        ensures bytes { OnOk result (self.new.bytes ≡ enc F.W
+            (splice self.old.list start end (new_elements Q.bytes value.entry))) }
+        ensures err { OnErr result (self.new ≡ self.old) }
+        ensures within { OnErr result (length self.old.bytes + self.old.spare < length (enc F.W
+            (splice self.old.list start end (new_elements Q.bytes value.entry)))) }
+        ensures spare { OnOk result (self.old.spare ≤ self.new.spare + (length (enc F.W
+            (splice self.old.list start end (new_elements Q.bytes value.entry)))
+            - length self.old.bytes)) }
+        ensures steps { OnOk result (steps.new ≤ steps.old + most_steps F.W
+            (length self.old.list) (length self.old.bytes) start end
+            (option_map (λ e. length e) (new_bytes Q.bytes value.entry))) }
+        ensures in_place { (e : List ℕ) → new_bytes Q.bytes value.entry ≡ Some e →
+            start < end →
+            length e ≡ length (concat (take (end - start) (drop start self.old.list))) →
+            OnOk result (steps.new ≤ steps.old + length e) }
+        ensures free { value.entry ≡ None → IsOk result }
+    {
+        splice::<T, F, Q, L>(&mut self.shelf, start, end, value, steps)
+    }
+
+    /// Makes a change at a place, and counts each byte that is written, moved or added as a step.
+    ///
+    /// # Errors
+    /// As [`insert`](Self::insert) and [`replace`](Self::replace). A removal is never refused.
+    pub fn splice_arg_counted<Q: ZvArg<T>, L: Ledger>(
+        &mut self,
+        index: usize,
+        change: Change<'_, Q>,
+        steps: &mut Steps<L>,
+    ) -> Result<(), VecError>
+        requires place { HasPlace Q.bytes change (length self.old.list) index }
+        requires below { IsBelow Q.bytes change }
+        ensures ok { OnOk result (self.new.list ≡
+            changed Q.bytes change.entry self.old.list index) }
+        ensures bytes { OnOk result (self.new.bytes ≡ enc F.W self.new.list) }
+        ensures err { OnErr result (self.new ≡ self.old) }
+        ensures refused { TooLargeUnless
+            (takes_change Q.bytes F.W change.entry self.old.list index) result }
+        ensures within { OnMemory result (length self.old.bytes + self.old.spare <
+            length (enc F.W (changed Q.bytes change.entry self.old.list index))) }
+        ensures spare { OnOk result (self.old.spare ≤
+            self.new.spare + (length self.new.bytes - length self.old.bytes)) }
+        ensures steps { OnOk result (steps.new ≤ steps.old + change_steps Q.bytes F.W
+            change.entry self.old.list (length self.old.bytes) index) }
+    {
+        match change {
+            Change::Insert(value) => self.insert_counted(index, value, steps),
+            Change::Replace(value) => self.replace_counted(index, value, steps),
+            Change::Remove => {
+                self.remove_counted(index, steps);
+                Ok(())
+            }
+        }
+    }
+
+    /// An insertion.
+    fn insert_counted<Q: ZvArg<T>, L: Ledger>(
+        &mut self,
+        index: usize,
+        value: &Q,
+        steps: &mut Steps<L>,
+    ) -> Result<(), VecError>
+        requires place { index ≤ length self.old.list }
+        requires below { length (Q.bytes value.now) < 2 ^ 64 }
+        ensures ok { OnOk result (self.new.list ≡ insert self.old.list index (Q.bytes value.now)) }
+        ensures bytes { OnOk result (self.new.bytes ≡ enc F.W self.new.list) }
+        ensures err { OnErr result (self.new ≡ self.old) }
+        ensures refused { TooLargeUnless (takes_insert F.W self.old.list
+            (length (Q.bytes value.now))) result }
+        ensures within { OnMemory result (length self.old.bytes + self.old.spare <
+            length (enc F.W (insert self.old.list index (Q.bytes value.now)))) }
+        ensures spare { OnOk result (self.old.spare ≤
+            self.new.spare + (length self.new.bytes - length self.old.bytes)) }
+        ensures steps { OnOk result (steps.new ≤ steps.old + most_steps F.W
+            (length self.old.list) (length self.old.bytes) index index
+            (Some (length (Q.bytes value.now)))) }
+    {
+        if !takes_insert(self.as_slice(), value.arg_len()) {
+            return Err(VecError::TooLarge);
+        }
+        self.splice(index, index, Some(value), steps)?;
+        Ok(())
+    }
+
+    /// A replacement.
+    fn replace_counted<Q: ZvArg<T>, L: Ledger>(
+        &mut self,
+        index: usize,
+        value: &Q,
+        steps: &mut Steps<L>,
+    ) -> Result<(), VecError>
+        requires place { index < length self.old.list }
+        requires below { length (Q.bytes value.now) < 2 ^ 64 }
+        ensures ok { OnOk result (self.new.list ≡ set self.old.list index (Q.bytes value.now)) }
+        ensures bytes { OnOk result (self.new.bytes ≡ enc F.W self.new.list) }
+        ensures err { OnErr result (self.new ≡ self.old) }
+        ensures refused { TooLargeUnless (takes_replace F.W self.old.list
+            (length (slice_index_or self.old.list index []))
+            (length (Q.bytes value.now))) result }
+        ensures within { OnMemory result (length self.old.bytes + self.old.spare <
+            length (enc F.W (set self.old.list index (Q.bytes value.now)))) }
+        ensures spare { OnOk result (self.old.spare ≤
+            self.new.spare + (length self.new.bytes - length self.old.bytes)) }
+        ensures steps { OnOk result (steps.new ≤ steps.old + most_steps F.W
+            (length self.old.list) (length self.old.bytes) index (index + 1)
+            (Some (length (Q.bytes value.now)))) }
+        ensures in_place { length (Q.bytes value.now) ≡
+            length (slice_index_or self.old.list index []) →
+            OnOk result (steps.new ≤ steps.old + length (Q.bytes value.now)) }
+    {
+        if !takes_replace(self.as_slice(), index, value.arg_len()) {
+            return Err(VecError::TooLarge);
+        }
+        self.splice(index, index + 1, Some(value), steps)?;
+        Ok(())
+    }
+
+    /// A removal.
+    fn remove_counted<L: Ledger>(&mut self, index: usize, steps: &mut Steps<L>)
+        requires place { index < length self.old.list }
+        ensures list { self.new.list ≡ remove self.old.list index }
+        ensures bytes { self.new.bytes ≡ enc F.W self.new.list }
+        ensures spare { self.old.spare ≤
+            self.new.spare + (length self.new.bytes - length self.old.bytes) }
+        ensures steps { steps.new ≤ steps.old + most_steps F.W
+            (length self.old.list) (length self.old.bytes) index (index + 1) None }
+    {
+        self.as_slice();
+        let _ = self.splice::<VarRef<'_, T>, L>(index, index + 1, None, steps);
+    }
+
+    /// Makes a change, with a counter that nobody reads.
+    #[inline]
+    fn change_from<Q: ZvArg<T>, L: Ledger>(
+        &mut self,
+        index: usize,
+        change: Change<'_, Q>,
+        blank: Blank,
+    ) -> Result<(), VecError>
+        requires place { HasPlace Q.bytes change (length self.old.list) index }
+        requires below { IsBelow Q.bytes change }
+        requires name { blank.name ≡ L.name }
+        requires parts { blank.parts ≡ L.parts }
+        requires some { 0 < blank.parts }
+        ensures ok { OnOk result (self.new.list ≡
+            changed Q.bytes change.entry self.old.list index) }
+        ensures bytes { OnOk result (self.new.bytes ≡ enc F.W self.new.list) }
+        ensures err { OnErr result (self.new ≡ self.old) }
+        ensures refused { TooLargeUnless
+            (takes_change Q.bytes F.W change.entry self.old.list index) result }
+        ensures within { OnMemory result (length self.old.bytes + self.old.spare <
+            length (enc F.W (changed Q.bytes change.entry self.old.list index))) }
+        ensures spare { OnOk result (self.old.spare ≤
+            self.new.spare + (length self.new.bytes - length self.old.bytes)) }
+    {
+        let mut steps = Steps::<L>::start(blank);
+        self.splice_arg_counted(index, change, &mut steps)
+    }
+
+    /// Makes a change, as [`splice_arg_counted`](Self::splice_arg_counted), where nobody counts.
+    #[inline]
+    pub fn splice_arg<Q: ZvArg<T>>(
+        &mut self,
+        index: usize,
+        change: Change<'_, Q>,
+    ) -> Result<(), VecError>
+        requires place { HasPlace Q.bytes change (length self.old.list) index }
+        requires below { IsBelow Q.bytes change }
+        ensures ok { OnOk result (self.new.list ≡
+            changed Q.bytes change.entry self.old.list index) }
+        ensures bytes { OnOk result (self.new.bytes ≡ enc F.W self.new.list) }
+        ensures err { OnErr result (self.new ≡ self.old) }
+        ensures refused { TooLargeUnless
+            (takes_change Q.bytes F.W change.entry self.old.list index) result }
+        ensures within { OnMemory result (length self.old.bytes + self.old.spare <
+            length (enc F.W (changed Q.bytes change.entry self.old.list index))) }
+        ensures spare { OnOk result (self.old.spare ≤
+            self.new.spare + (length self.new.bytes - length self.old.bytes)) }
+    {
+        self.change_from::<Q, Brand>(index, change, Blank::new(1))
+    }
+
     /// Puts what is written for a value before the element at a place, or at the end.
     ///
     /// # Errors
@@ -182,9 +392,12 @@ impl<T: ZvKind, F: VarZeroVecFormat> VarZeroVecOwned<T, F> {
         ensures err { OnErr result (self.new ≡ self.old) }
         ensures refused { TooLargeUnless (takes_insert F.W self.old.list
             (length (Q.bytes value.now))) result }
+        ensures within { OnMemory result (length self.old.bytes + self.old.spare <
+            length (enc F.W (insert self.old.list index (Q.bytes value.now)))) }
+        ensures spare { OnOk result (self.old.spare ≤
+            self.new.spare + (length self.new.bytes - length self.old.bytes)) }
     {
-        *self = insert_into(*self.bytes.allocator(), self.as_slice(), index, value)?;
-        Ok(())
+        self.splice_arg(index, Change::Insert(value))
     }
 
     /// Puts what is written for a value in place of the element at a place.
@@ -201,22 +414,87 @@ impl<T: ZvKind, F: VarZeroVecFormat> VarZeroVecOwned<T, F> {
         ensures refused { TooLargeUnless (takes_replace F.W self.old.list
             (length (slice_index_or self.old.list index []))
             (length (Q.bytes value.now))) result }
+        ensures within { OnMemory result (length self.old.bytes + self.old.spare <
+            length (enc F.W (set self.old.list index (Q.bytes value.now)))) }
+        ensures spare { OnOk result (self.old.spare ≤
+            self.new.spare + (length self.new.bytes - length self.old.bytes)) }
     {
-        *self = replace_in(*self.bytes.allocator(), self.as_slice(), index, value)?;
-        Ok(())
+        self.splice_arg(index, Change::Replace(value))
     }
 
-    /// Takes out the element at a place, and writes the rest anew. After [`NoMemory`] the list is
-    /// as it was.
+    /// A removal, with a counter that nobody reads.
     #[inline]
-    pub fn remove_anew(&mut self, index: usize) -> Result<(), NoMemory>
+    fn remove_from<L: Ledger>(&mut self, index: usize, blank: Blank)
         requires place { index < length self.old.list }
-        ensures ok { OnOk result (self.new.list ≡ remove self.old.list index) }
-        ensures bytes { OnOk result (self.new.bytes ≡ enc F.W self.new.list) }
-        ensures err { OnErr result (self.new ≡ self.old) }
+        requires name { blank.name ≡ L.name }
+        requires parts { blank.parts ≡ L.parts }
+        requires some { 0 < blank.parts }
+        ensures list { self.new.list ≡ remove self.old.list index }
+        ensures bytes { self.new.bytes ≡ enc F.W self.new.list }
+        ensures spare { self.old.spare ≤
+            self.new.spare + (length self.new.bytes - length self.old.bytes) }
     {
-        *self = remove_from(*self.bytes.allocator(), self.as_slice(), index)?;
-        Ok(())
+        let mut steps = Steps::<L>::start(blank);
+        self.remove_counted(index, &mut steps);
+    }
+
+    /// Takes out the element at a place. It takes no memory, and is never refused.
+    #[inline]
+    pub fn remove(&mut self, index: usize)
+        requires place { index < length self.old.list }
+        ensures list { self.new.list ≡ remove self.old.list index }
+        ensures bytes { self.new.bytes ≡ enc F.W self.new.list }
+        ensures spare { self.old.spare ≤
+            self.new.spare + (length self.new.bytes - length self.old.bytes) }
+    {
+        self.remove_from::<Brand>(index, Blank::new(1));
+    }
+
+    /// How many bytes the list can grow by without memory.
+    #[inline]
+    pub fn spare(&self) -> usize
+        ensures { result ≡ self.now.spare }
+    {
+        self.shelf.spare()
+    }
+
+    /// Makes room for `n` bytes more. After [`NoMemory`] the list is as it was.
+    #[inline]
+    pub fn reserve_bytes(&mut self, n: usize) -> Result<(), NoMemory>
+        ensures list { self.new.list ≡ self.old.list }
+        ensures bytes { self.new.bytes ≡ self.old.bytes }
+        ensures ok { OnOk result (n ≤ self.new.spare) }
+        ensures err { OnErr result (self.new ≡ self.old) }
+        ensures kept { self.old.spare ≤ self.new.spare }
+    {
+        self.shelf.reserve(n)
+    }
+
+    /// Makes room for `additional` elements more, of four bytes each. After [`NoMemory`] the list
+    /// is as it was.
+    pub fn reserve(&mut self, additional: usize) -> Result<(), NoMemory>
+        ensures list { self.new.list ≡ self.old.list }
+        ensures bytes { self.new.bytes ≡ self.old.bytes }
+        ensures ok { OnOk result (additional * (F.W + 4) ≤ self.new.spare) }
+        ensures err { OnErr result (self.new ≡ self.old) }
+        ensures kept { self.old.spare ≤ self.new.spare }
+    {
+        let Some(n) = additional.checked_mul(F::W + 4) else {
+            return Err(NoMemory);
+        };
+        self.reserve_bytes(n)
+    }
+
+    /// The list of no elements, with room for `capacity` elements of four bytes each.
+    pub fn with_capacity(alloc: Global, capacity: usize) -> Result<Self, NoMemory>
+        requires { IsTrue T.usable }
+        ensures list { IfOk result (λ v. v.list ≡ []) }
+        ensures bytes { IfOk result (λ v. v.bytes ≡ []) }
+        ensures spare { IfOk result (λ v. capacity * (F.W + 4) ≤ v.spare) }
+    {
+        let mut list = VarZeroVecOwned::new(alloc);
+        list.reserve(capacity)?;
+        Ok(list)
     }
 
     /// Takes out every element. It takes no memory, and keeps what it has.
@@ -226,7 +504,7 @@ impl<T: ZvKind, F: VarZeroVecFormat> VarZeroVecOwned<T, F> {
         ensures bytes { self.new.bytes ≡ [] }
         ensures spare { self.old.spare ≤ self.new.spare }
     {
-        self.bytes.clear();
+        self.shelf.clear();
     }
 
     /// The list's bytes, in the memory that they lie in.
@@ -235,8 +513,8 @@ impl<T: ZvKind, F: VarZeroVecFormat> VarZeroVecOwned<T, F> {
         ensures bytes { result.items ≡ self.bytes }
         ensures spells { list_fault F.W T.fault self.bytes ≡ None }
     {
-        let VarZeroVecOwned { bytes, of: _ } = self;
-        bytes
+        let VarZeroVecOwned { shelf, of: _ } = self;
+        shelf.into_bytes()
     }
 
     /// A list of its own with the same bytes.
@@ -245,11 +523,52 @@ impl<T: ZvKind, F: VarZeroVecFormat> VarZeroVecOwned<T, F> {
         ensures list { IfOk result (λ v. v.list ≡ self.now.list) }
         ensures bytes { IfOk result (λ v. v.bytes ≡ self.now.bytes) }
     {
-        VarZeroVecOwned::from_slice(*self.bytes.allocator(), self.as_slice())
+        VarZeroVecOwned::from_slice(self.shelf.allocator(), self.as_slice())
     }
 }
 
 impl<T: VarULE, F: VarZeroVecFormat> VarZeroVecOwned<T, F> {
+    /// Makes a change by a value's spelling at a place, and counts each byte that is written, moved
+    /// or added as a step.
+    ///
+    /// # Errors
+    /// As [`insert`](Self::insert) and [`replace`](Self::replace). A removal is never refused.
+    pub fn splice_counted<A: EncodeAsVarULE<T>, L: Ledger>(
+        &mut self,
+        index: usize,
+        change: Change<'_, A>,
+        steps: &mut Steps<L>,
+    ) -> Result<(), VecError>
+        requires place { HasPlace A.spelling change (length self.old.list) index }
+        ensures ok { OnOk result (self.new.list ≡
+            changed A.spelling change.entry self.old.list index) }
+        ensures bytes { OnOk result (self.new.bytes ≡ enc F.W self.new.list) }
+        ensures err { OnErr result (self.new ≡ self.old) }
+        ensures refused { TooLargeUnless (fits_change A.fits change.entry &&
+            takes_change A.spelling F.W change.entry self.old.list index) result }
+        ensures within { OnMemory result (length self.old.bytes + self.old.spare <
+            length (enc F.W (changed A.spelling change.entry self.old.list index))) }
+        ensures spare { OnOk result (self.old.spare ≤
+            self.new.spare + (length self.new.bytes - length self.old.bytes)) }
+        ensures steps { OnOk result (steps.new ≤ steps.old + change_steps A.spelling F.W
+            change.entry self.old.list (length self.old.bytes) index) }
+    {
+        match change {
+            Change::Insert(element) => {
+                let value = Encoded::for_list(self.as_slice(), element).ok_or(VecError::TooLarge)?;
+                self.splice_arg_counted(index, Change::Insert(&value), steps)
+            }
+            Change::Replace(element) => {
+                let value = Encoded::for_list(self.as_slice(), element).ok_or(VecError::TooLarge)?;
+                self.splice_arg_counted(index, Change::Replace(&value), steps)
+            }
+            Change::Remove => {
+                self.remove_counted(index, steps);
+                Ok(())
+            }
+        }
+    }
+
     /// Puts a value's spelling before the element at a place, or at the end.
     ///
     /// # Errors
@@ -268,6 +587,10 @@ impl<T: VarULE, F: VarZeroVecFormat> VarZeroVecOwned<T, F> {
         ensures err { OnErr result (self.new ≡ self.old) }
         ensures refused { TooLargeUnless (A.fits element.now && takes_insert F.W self.old.list
             (length (A.spelling element.now))) result }
+        ensures within { OnMemory result (length self.old.bytes + self.old.spare <
+            length (enc F.W (insert self.old.list index (A.spelling element.now)))) }
+        ensures spare { OnOk result (self.old.spare ≤
+            self.new.spare + (length self.new.bytes - length self.old.bytes)) }
     {
         let value = Encoded::for_list(self.as_slice(), element).ok_or(VecError::TooLarge)?;
         self.insert_arg(index, &value)
@@ -282,6 +605,10 @@ impl<T: VarULE, F: VarZeroVecFormat> VarZeroVecOwned<T, F> {
         ensures err { OnErr result (self.new ≡ self.old) }
         ensures refused { TooLargeUnless (A.fits element.now && takes_insert F.W self.old.list
             (length (A.spelling element.now))) result }
+        ensures within { OnMemory result (length self.old.bytes + self.old.spare <
+            length (enc F.W (self.old.list ++ A.spelling element.now ∷ []))) }
+        ensures spare { OnOk result (self.old.spare ≤
+            self.new.spare + (length self.new.bytes - length self.old.bytes)) }
     {
         let end = self.len();
         self.insert(end, element)
@@ -306,6 +633,10 @@ impl<T: VarULE, F: VarZeroVecFormat> VarZeroVecOwned<T, F> {
         ensures refused { TooLargeUnless (A.fits element.now && takes_replace F.W self.old.list
             (length (slice_index_or self.old.list index []))
             (length (A.spelling element.now))) result }
+        ensures within { OnMemory result (length self.old.bytes + self.old.spare <
+            length (enc F.W (set self.old.list index (A.spelling element.now)))) }
+        ensures spare { OnOk result (self.old.spare ≤
+            self.new.spare + (length self.new.bytes - length self.old.bytes)) }
     {
         let value = Encoded::for_list(self.as_slice(), element).ok_or(VecError::TooLarge)?;
         self.replace_arg(index, &value)
@@ -336,4 +667,15 @@ impl<T: ZvOrd, F: VarZeroVecFormat> VarZeroVecOwned<T, F> {
     {
         self.as_slice().binary_search(needle)
     }
+}
+
+/// A change of a list at a place.
+#[derive(Drop)]
+pub enum Change<'e, A> {
+    /// A value comes before the element at the place, or at the end.
+    Insert(&'e A),
+    /// A value takes the place of the element.
+    Replace(&'e A),
+    /// The element goes.
+    Remove,
 }

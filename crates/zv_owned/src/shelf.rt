@@ -45,6 +45,25 @@ impl Shelf {
         }
     }
 
+    /// A copy of bytes, with room for `more`.
+    pub(crate) fn with_copy(alloc: Global, bytes: &[u8], more: usize) -> Result<Self, NoMemory>
+        ensures bytes { IfOk result (λ s. s.bytes ≡ bytes.now) }
+        ensures spare { IfOk result (λ s. s.spare ≡ more) }
+    {
+        let Some(capacity) = bytes.len().checked_add(more) else {
+            return Err(NoMemory);
+        };
+        let mut buffer = Vec::with_capacity(alloc, capacity)?;
+        buffer.extend_from_slice(bytes)?;
+        Ok(Shelf { buffer, room: more })
+    }
+
+    /// What gives it memory.
+    #[inline]
+    pub(crate) fn allocator(&self) -> Global {
+        *self.buffer.allocator()
+    }
+
     /// How many bytes there are.
     #[inline]
     pub fn len(&self) -> usize

@@ -12,13 +12,13 @@ ghost use Rattle.zv_var.specs.Format.{elements, enc, list_fault};
 ghost use Rattle.zv_var.specs.Iters.{left_of};
 ghost use Rattle.zv_var.specs.Nested.{slice_fault};
 ghost use Rattle.zv_var.specs.Views.{bytes_of, list_of, parts_of};
+ghost use Rattle.zv_owned.specs.Changes.{HasPlace, IsBelow, OnMemory, changed, takes_change};
 ghost use Rattle.zv_owned.specs.Owned.{Owned, TooLargeUnless};
 ghost use Rattle.zv_owned.specs.Size.{takes_insert, takes_replace};
 
-use crate::changes::{insert_into, remove_from, replace_in};
 use crate::error::VecError;
-use crate::owned::VarZeroVecOwned;
-use crate::size::{takes_insert, takes_replace};
+use crate::owned::{Change, VarZeroVecOwned};
+use crate::size::{growth_of, takes_change, takes_insert, takes_replace};
 use std::alloc::Global;
 use std::marker::Model;
 use std::ops::Range;
@@ -74,6 +74,29 @@ impl<T: ZvKind, F: VarZeroVecFormat> Slot<T, F> {
         }
         Ok(())
     }
+}
+
+/// A copy of a list, with a change.
+fn changed_copy<T: ZvKind, F: VarZeroVecFormat, Q: ZvArg<T>>(
+    alloc: Global,
+    list: VarZeroSlice<'_, T, F>,
+    index: usize,
+    change: Change<'_, Q>,
+) -> Result<VarZeroVecOwned<T, F>, VecError>
+    requires place { HasPlace Q.bytes change (length (list_of list)) index }
+    requires below { IsBelow Q.bytes change }
+    ensures ok { IfOk result (λ v. v.list ≡
+        changed Q.bytes change.entry (list_of list.entry) index) }
+    ensures bytes { IfOk result (λ v. v.bytes ≡ enc F.W v.list) }
+    ensures refused { TooLargeUnless
+        (takes_change Q.bytes F.W change.entry (list_of list.entry) index) result }
+{
+    if !takes_change(list, index, &change) {
+        return Err(VecError::TooLarge);
+    }
+    let mut copy = VarZeroVecOwned::with_copy(alloc, list, growth_of(list, &change))?;
+    copy.splice_arg(index, change)?;
+    Ok(copy)
 }
 
 /// A list of elements of any lengths: a view of bytes, or bytes of its own.
@@ -288,11 +311,45 @@ impl<'a, T: ZvKind, F: VarZeroVecFormat> VarZeroVec<'a, T, F> {
         takes_replace(self.as_slice(), index, len)
     }
 
+    /// Makes a change at a place. The list is owned then.
+    ///
+    /// # Errors
+    /// As [`VarZeroVecOwned::splice_arg`].
+    pub fn splice_arg<Q: ZvArg<T>>(
+        &mut self,
+        alloc: Global,
+        index: usize,
+        change: Change<'_, Q>,
+    ) -> Result<(), VecError>
+        requires place { HasPlace Q.bytes change (length (vector_list self.old)) index }
+        requires below { IsBelow Q.bytes change }
+        ensures ok { OnOk result (vector_list self.new ≡
+            changed Q.bytes change.entry (vector_list self.old) index) }
+        ensures bytes { OnOk result (vector_bytes self.new ≡ enc F.W (vector_list self.new)) }
+        ensures owned { OnOk result (vector_owned self.new ≡ true) }
+        ensures err { OnErr result (self.new ≡ self.old) }
+        ensures refused { TooLargeUnless
+            (takes_change Q.bytes F.W change.entry (vector_list self.old) index) result }
+        ensures within { IsTrue (vector_owned self.old) → OnMemory result
+            (length (vector_bytes self.old) + vector_spare self.old <
+            length (enc F.W (changed Q.bytes change.entry (vector_list self.old) index))) }
+    {
+        match self.slot.as_owned() {
+            Some(owned) => owned.splice_arg(index, change),
+            None => {
+                let changed = changed_copy(alloc, self.view, index, change)?;
+                self.slot.owned = Some(changed);
+                Ok(())
+            }
+        }
+    }
+
     /// Puts what is written for a value before the element at a place, or at the end. The list is
     /// owned then.
     ///
     /// # Errors
     /// As [`VarZeroVecOwned::insert`].
+    #[inline]
     pub fn insert_arg<Q: ZvArg<T>>(
         &mut self,
         alloc: Global,
@@ -309,15 +366,14 @@ impl<'a, T: ZvKind, F: VarZeroVecFormat> VarZeroVec<'a, T, F> {
         ensures refused { TooLargeUnless (takes_insert F.W (vector_list self.old)
             (length (Q.bytes value.now))) result }
     {
-        let changed = insert_into(alloc, self.as_slice(), index, value)?;
-        self.slot.owned = Some(changed);
-        Ok(())
+        self.splice_arg(alloc, index, Change::Insert(value))
     }
 
     /// Puts what is written for a value in place of the element at a place. The list is owned then.
     ///
     /// # Errors
     /// As [`VarZeroVecOwned::replace`].
+    #[inline]
     pub fn replace_arg<Q: ZvArg<T>>(
         &mut self,
         alloc: Global,
@@ -335,23 +391,41 @@ impl<'a, T: ZvKind, F: VarZeroVecFormat> VarZeroVec<'a, T, F> {
             (length (slice_index_or (vector_list self.old) index []))
             (length (Q.bytes value.now))) result }
     {
-        let changed = replace_in(alloc, self.as_slice(), index, value)?;
-        self.slot.owned = Some(changed);
-        Ok(())
+        self.splice_arg(alloc, index, Change::Replace(value))
     }
 
-    /// Takes out the element at a place, and writes the rest anew. The list is owned then. After
-    /// [`NoMemory`] it is as it was.
-    pub fn remove_anew(&mut self, alloc: Global, index: usize) -> Result<(), NoMemory>
+    /// Takes out the element at a place. The list is owned then.
+    ///
+    /// # Errors
+    /// [`NoMemory`] at most where the list is borrowed, and then it stays so.
+    pub fn remove(&mut self, alloc: Global, index: usize) -> Result<(), NoMemory>
         requires place { index < length (vector_list self.old) }
         ensures ok { OnOk result (vector_list self.new ≡ remove (vector_list self.old) index) }
         ensures bytes { OnOk result (vector_bytes self.new ≡ enc F.W (vector_list self.new)) }
         ensures owned { OnOk result (vector_owned self.new ≡ true) }
         ensures err { OnErr result (self.new ≡ self.old) }
+        ensures free { IsTrue (vector_owned self.old) → IsOk result }
     {
-        let changed = remove_from(alloc, self.as_slice(), index)?;
-        self.slot.owned = Some(changed);
+        match self.slot.as_owned() {
+            Some(owned) => owned.remove(index),
+            None => {
+                let mut owned = VarZeroVecOwned::from_slice(alloc, self.view)?;
+                owned.remove(index);
+                self.slot.owned = Some(owned);
+            }
+        }
         Ok(())
+    }
+
+    /// How many bytes the list can grow by without memory: none where it is borrowed.
+    #[inline]
+    pub fn spare(&self) -> usize
+        ensures { result ≡ vector_spare self.now }
+    {
+        match &self.slot.owned {
+            Some(owned) => owned.spare(),
+            None => 0,
+        }
     }
 
     /// Takes out every element. It takes no memory. A list that is owned stays so, and keeps what

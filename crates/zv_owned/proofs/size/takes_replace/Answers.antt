@@ -2,7 +2,7 @@ use Rattle.std.proofs.Common.{◌≡◌, ◌-◌, ◌<◌, ◌≤◌, [], length
 use Rattle.zv_var.proofs.Read.{Part_from_fault}
 use Rattle.zv_var.specs.Format.{Part}
 use Rattle.zv_var.specs.Views.{list_of}
-use Rattle.zv_owned.proofs.Pieces.{count_within}
+use Rattle.zv_owned.proofs.Offsets.{count_within}
 use Rattle.zv_owned.proofs.SizeRule.{length_seen, longer_seen, shorter_seen}
 use Rattle.zv_owned.proofs.size.takes_replace.Goals as goal
 use Rattle.zv_owned.proofs.size.takes_replace.Goals.{After-offset-2}

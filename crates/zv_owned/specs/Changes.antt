@@ -1,0 +1,58 @@
+-- Changes of a list at a place. f is what is written for a value.
+use Rattle.std.specs.Prelude.{◌≡◌, ⊤, ℕ, ◌+◌, ◌*◌, ◌^◌, ◌<◌, ◌≤◌, ◌==◌, Bool, true, List, []}
+use Rattle.std.specs.Prelude.{length, set, slice_index_or, if◌then◌else◌, Some, None}
+use Rattle.std.specs.Prelude.{Result, Ok, Err}
+use Rattle.std.specs.List.{insert, remove}
+use Rattle.zv_owned.specs.Size.{takes_insert, takes_replace}
+use Rattle.zv_owned.specs.Splices.{most_steps}
+use Rattle.zv_owned.specs.declared.error.VecError.{VecError}
+use Rattle.zv_owned.specs.declared.error.VecError.TheVariants.{TooLarge, Memory}
+use Rattle.zv_owned.specs.declared.owned.Change.{Change}
+use Rattle.zv_owned.specs.declared.owned.Change.TheVariants.{Insert, Replace, Remove}
+
+-- it is said of a refusal for want of memory
+abbrev pub OnMemory : {A : Type 0} → Result A VecError → Type 0 → Type 0
+OnMemory (Ok v) P = ⊤
+OnMemory (Err TooLarge) P = ⊤
+OnMemory (Err Memory) P = P
+
+-- the value has what is written for it
+abbrev pub fits_change : {A : Type 0} → (A → Bool) → Change A → Bool
+fits_change fits (Insert a) = fits a.now
+fits_change fits (Replace a) = fits a.now
+fits_change fits Remove = true
+
+module _ {A : Type 0} (f : A → List ℕ) where
+  -- the list after the change
+  abbrev pub changed : Change A → List (List ℕ) → ℕ → List (List ℕ)
+  changed (Insert a) xs i = insert xs i (f a.now)
+  changed (Replace a) xs i = set xs i (f a.now)
+  changed Remove xs i = remove xs i
+
+  -- a list of n elements has the place
+  abbrev pub HasPlace : Change A → ℕ → ℕ → Type 0
+  HasPlace (Insert a) n i = i ≤ n
+  HasPlace (Replace a) n i = i < n
+  HasPlace Remove n i = i < n
+
+  -- what is written is below 2^64 bytes
+  abbrev pub IsBelow : Change A → Type 0
+  IsBelow (Insert a) = length (f a.now) < 2 ^ 64
+  IsBelow (Replace a) = length (f a.now) < 2 ^ 64
+  IsBelow Remove = ⊤
+
+  -- the size rule takes it
+  abbrev pub takes_change : ℕ → Change A → List (List ℕ) → ℕ → Bool
+  takes_change w (Insert a) xs i = takes_insert w xs (length (f a.now))
+  takes_change w (Replace a) xs i =
+      takes_replace w xs (length (slice_index_or xs i [])) (length (f a.now))
+  takes_change w Remove xs i = true
+
+  -- the most steps that it takes, in a list of `long` bytes: as many as the new element has bytes
+  -- where it replaces one of the same length
+  abbrev pub change_steps : ℕ → Change A → List (List ℕ) → ℕ → ℕ → ℕ
+  change_steps w (Insert a) xs long i = most_steps w (length xs) long i i (Some (length (f a.now)))
+  change_steps w (Replace a) xs long i =
+      if length (f a.now) == length (slice_index_or xs i []) then length (f a.now)
+      else most_steps w (length xs) long i (i + 1) (Some (length (f a.now)))
+  change_steps w Remove xs long i = most_steps w (length xs) long i (i + 1) None

@@ -1,0 +1,227 @@
+// What is written into the gaps of a list's bytes.
+ghost use Rattle.std.specs.Prelude.{◌≡◌, ℕ, None, IsTrue, ◌+◌, ◌-◌, ◌*◌, ◌^◌, ◌<◌, ◌≤◌, ◌++◌, List};
+ghost use Rattle.std.specs.Prelude.{length, map, false, IsOk, OnErr, OnOk};
+ghost use Rattle.std.specs.List.{AllByRecursion, concat, flat_map, splice};
+ghost use Rattle.std.specs.Option.{ForSome, option_to_list};
+ghost use Rattle.zv_ule.specs.Bytes.{le};
+ghost use Rattle.zv_owned.specs.Splices.{CanShift, Edits, Puts, new_elements, shifted};
+
+use crate::moves::{Gap, fit_gaps};
+use crate::shelf::Shelf;
+use std::sync::ledger::Ledger;
+use zv_ule::{NoMemory, Steps, VarZeroVecFormat, ZvArg, ZvKind, read_start, write_start};
+
+/// Writes what is written for a value, over as many bytes.
+#[inline]
+pub(crate) fn write_value<T: ZvKind, Q: ZvArg<T>, L: Ledger>(
+    shelf: &mut Shelf,
+    at: usize,
+    value: &Q,
+    steps: &mut Steps<L>,
+)
+    requires usable { IsTrue T.usable }
+    requires inside { at + length (Q.bytes value.now) ≤ length shelf.old.bytes }
+    ensures bytes { shelf.new.bytes ≡ splice shelf.old.bytes at
+        (at + length (Q.bytes value.now)) (Q.bytes value.now) }
+    ensures len { length shelf.new.bytes ≡ length shelf.old.bytes }
+    ensures spare { shelf.new.spare ≡ shelf.old.spare }
+    ensures steps { steps.new ≡ steps.old + length (Q.bytes value.now) }
+{
+    let _len = shelf.len();
+    let len = value.arg_len();
+    value.arg_write(shelf.lend(at, len, steps));
+}
+
+/// Writes a field.
+#[inline]
+pub(crate) fn write_field<F: VarZeroVecFormat, L: Ledger>(
+    shelf: &mut Shelf,
+    at: usize,
+    n: usize,
+    steps: &mut Steps<L>,
+)
+    requires inside { at + F.W ≤ length shelf.old.bytes }
+    requires fits { n < 256 ^ F.W }
+    ensures bytes { shelf.new.bytes ≡ splice shelf.old.bytes at (at + F.W) (le F.W n) }
+    ensures len { length shelf.new.bytes ≡ length shelf.old.bytes }
+    ensures spare { shelf.new.spare ≡ shelf.old.spare }
+    ensures steps { steps.new ≡ steps.old + F.W }
+{
+    write_start::<F>(n, shelf.lend(at, F::W, steps));
+}
+
+/// Raises the numbers of fields by `into` and lowers them by `out`.
+fn shift_fields<F: VarZeroVecFormat>(fields: &mut [u8], count: usize, into: usize, out: usize)
+    requires whole { length fields.old ≡ F.W * count }
+    requires small { into < 2 ^ 63 }
+    ensures { (ss : List ℕ) → fields.old ≡ flat_map (le F.W) ss → length ss ≡ count →
+        CanShift F.W into out ss →
+        fields.new ≡ flat_map (le F.W) (map (shifted into out) ss) }
+{
+    let width = F::W;
+    let most = F::MAX;
+    let mut at = 0;
+    for _place in 0..count {
+        let field = &mut fields[at..at + width];
+        let start = read_start::<F>(field) + into;
+        write_start::<F>(start.wrapping_sub(out) % (most + 1), field);
+        at += width;
+    }
+}
+
+/// What changes in the bytes of a list: bytes of its starts give way to at most one start, and
+/// bytes of its elements to at most one element.
+#[derive(Clone, Copy, Debug, PartialEq, Eq)]
+pub(crate) struct Edit {
+    /// The fields that go, and as many bytes as the new start has.
+    pub(crate) fields: Gap,
+    /// The new start, if there is one.
+    pub(crate) start: Option<usize>,
+    /// How many starts there are after it.
+    pub(crate) later: usize,
+    /// The elements that go, and as many bytes as the new one has.
+    pub(crate) body: Gap,
+    /// How many elements there are then.
+    pub(crate) count: usize,
+}
+
+/// Writes the new start, if there is one.
+#[inline]
+fn put_start<F: VarZeroVecFormat, L: Ledger>(
+    shelf: &mut Shelf,
+    at: usize,
+    start: Option<usize>,
+    steps: &mut Steps<L>,
+)
+    requires inside { ForSome start (λ _. at + F.W ≤ length shelf.old.bytes) }
+    requires fits { ForSome start (λ n. n < 256 ^ F.W) }
+    ensures bytes { Puts shelf.old.bytes at (F.W * length (option_to_list start))
+        (flat_map (le F.W) (option_to_list start)) shelf.new.bytes }
+    ensures len { length shelf.new.bytes ≡ length shelf.old.bytes }
+    ensures spare { shelf.new.spare ≡ shelf.old.spare }
+    ensures steps { steps.new ≡ steps.old + F.W * length (option_to_list start) }
+{
+    if let Some(n) = start {
+        write_field::<F, L>(shelf, at, n, steps);
+    }
+}
+
+/// Writes what is written for a value, if there is one.
+#[inline]
+fn put_value<T: ZvKind, Q: ZvArg<T>, L: Ledger>(
+    shelf: &mut Shelf,
+    at: usize,
+    value: Option<&Q>,
+    steps: &mut Steps<L>,
+)
+    requires usable { IsTrue T.usable }
+    requires inside { at + length (concat (new_elements Q.bytes value)) ≤ length shelf.old.bytes }
+    ensures bytes { Puts shelf.old.bytes at (length (concat (new_elements Q.bytes value.entry)))
+        (concat (new_elements Q.bytes value.entry)) shelf.new.bytes }
+    ensures len { length shelf.new.bytes ≡ length shelf.old.bytes }
+    ensures spare { shelf.new.spare ≡ shelf.old.spare }
+    ensures steps { steps.new ≡ steps.old + length (concat (new_elements Q.bytes value.entry)) }
+{
+    if let Some(value) = value {
+        write_value::<T, Q, L>(shelf, at, value, steps);
+    }
+}
+
+/// Raises the numbers of fields by `into` and lowers them by `out`, if that changes them.
+#[inline]
+fn put_shifted<F: VarZeroVecFormat, L: Ledger>(
+    shelf: &mut Shelf,
+    at: usize,
+    count: usize,
+    into: usize,
+    out: usize,
+    steps: &mut Steps<L>,
+)
+    requires inside { at + F.W * count ≤ length shelf.old.bytes }
+    requires small { into < 2 ^ 63 }
+    ensures bytes { (ss : List ℕ) → length ss ≡ count → CanShift F.W into out ss →
+        (p q : List ℕ) → shelf.old.bytes ≡ p ++ (flat_map (le F.W) ss ++ q) → length p ≡ at →
+        shelf.new.bytes ≡ p ++ (flat_map (le F.W) (map (shifted into out) ss) ++ q) }
+    ensures len { length shelf.new.bytes ≡ length shelf.old.bytes }
+    ensures spare { shelf.new.spare ≡ shelf.old.spare }
+    ensures steps { steps.new ≤ steps.old + F.W * count }
+    ensures still { into ≡ out → steps.new ≡ steps.old }
+{
+    let _len = shelf.len();
+    if into != out {
+        shift_fields::<F>(shelf.lend(at, F::W * count, steps), count, into, out);
+    }
+}
+
+/// Writes the count, if it is another.
+#[inline]
+fn put_count<F: VarZeroVecFormat, L: Ledger>(
+    shelf: &mut Shelf,
+    is_other: bool,
+    count: usize,
+    steps: &mut Steps<L>,
+)
+    requires inside { F.W ≤ length shelf.old.bytes }
+    requires fits { count < 256 ^ F.W }
+    ensures bytes { (c q : List ℕ) → shelf.old.bytes ≡ c ++ q → length c ≡ F.W →
+        (is_other ≡ false → c ≡ le F.W count) → shelf.new.bytes ≡ le F.W count ++ q }
+    ensures len { length shelf.new.bytes ≡ length shelf.old.bytes }
+    ensures spare { shelf.new.spare ≡ shelf.old.spare }
+    ensures steps { steps.new ≤ steps.old + F.W }
+    ensures still { is_other ≡ false → steps.new ≡ steps.old }
+{
+    if is_other {
+        write_field::<F, L>(shelf, 0, count, steps);
+    }
+}
+
+/// Makes a change in the bytes of a list.
+pub(crate) fn edit_bytes<T: ZvKind, F: VarZeroVecFormat, Q: ZvArg<T>, L: Ledger>(
+    shelf: &mut Shelf,
+    edit: &Edit,
+    value: Option<&Q>,
+    steps: &mut Steps<L>,
+) -> Result<(), NoMemory>
+    requires usable { IsTrue T.usable }
+    requires head { F.W ≤ edit.now.fields.at }
+    requires order { edit.now.fields.at + edit.now.fields.out + F.W * edit.now.later
+        ≤ edit.now.body.at }
+    requires inside { edit.now.body.at + edit.now.body.out ≤ length shelf.old.bytes }
+    requires small { length shelf.old.bytes + edit.now.fields.into + edit.now.body.into < 2 ^ 64 }
+    requires short { edit.now.body.into < 2 ^ 63 }
+    requires start { edit.now.fields.into ≡ F.W * length (option_to_list edit.now.start) }
+    requires value { edit.now.body.into ≡ length (concat (new_elements Q.bytes value)) }
+    requires start_fits { ForSome edit.now.start (λ n. n < 256 ^ F.W) }
+    requires count_fits { edit.now.count < 256 ^ F.W }
+    ensures ok { OnOk result (Edits F.W edit.now (concat (new_elements Q.bytes value.entry))
+        shelf.old.bytes shelf.new.bytes) }
+    ensures err { OnErr result (shelf.new ≡ shelf.old) }
+    ensures within { OnErr result (edit.now.fields.out + edit.now.body.out + shelf.old.spare <
+        edit.now.fields.into + edit.now.body.into) }
+    ensures spare { OnOk result (shelf.old.spare ≤ shelf.new.spare +
+        (edit.now.fields.into + edit.now.body.into
+        - (edit.now.fields.out + edit.now.body.out))) }
+    ensures steps { OnOk result (steps.new ≤ steps.old + (length shelf.old.bytes
+        - edit.now.fields.at - edit.now.fields.out - edit.now.body.out)
+        + (edit.now.fields.into + edit.now.body.into - (edit.now.fields.out + edit.now.body.out))
+        + edit.now.body.into + edit.now.fields.into + F.W * edit.now.later + F.W) }
+    ensures still { edit.now.fields.out ≡ 0 → edit.now.start ≡ None →
+        edit.now.body.out ≡ edit.now.body.into →
+        OnOk result (steps.new ≤ steps.old + edit.now.body.into) }
+{
+    let Edit {
+        fields,
+        start,
+        later,
+        body,
+        count,
+    } = *edit;
+    fit_gaps(shelf, fields, body, steps)?;
+    let at = body.at - fields.out + fields.into;
+    put_value::<T, Q, L>(shelf, at, value, steps);
+    put_start::<F, L>(shelf, fields.at, start, steps);
+    let after = fields.at + fields.into;
+    put_shifted::<F, L>(shelf, after, later, body.into, body.out, steps);
+    put_count::<F, L>(shelf, fields.into != fields.out, count, steps);
+    Ok(())
+}
