@@ -1,13 +1,13 @@
 -- Bytes in which some chunks become others.
 use Rattle.std.proofs.Common.{◌≡◌, ℕ, zero, suc, ◌+◌, ◌-◌, ◌*◌, ◌/◌, ◌%◌, ◌<◌, ◌≤◌, List, [], ◌∷◌, ◌++◌, length, take, drop, map, get_or, Option, Some, None}
 use Rattle.std.proofs.Common.{refl, ap, sym, ◌∙◌, arith, length-append, length-drop}
-use Rattle.std.specs.Prelude.{insert, remove, slice_get, slice_set, IsTrue, OnOk, OnErr, Result, Ok, Err}
+use Rattle.std.specs.Prelude.{insert, remove, slice_get, slice_range, slice_set, IsTrue, OnOk, OnErr, Result, Ok, Err}
 use Rattle.std.specs.List.{splice, take-map, drop-map}
 use Rattle.std.specs.Option.{option_map}
 use Rattle.std.proofs.Math.Nat.{suc-mul, div-mul-le_self}
-use Rattle.std.proofs.lemmas.List.{take-append-le, drop-append-le, take-append-drop, take_at, drop_at, take_all, nil_from_length, length-take-le}
+use Rattle.std.proofs.lemmas.List.{take-append-le, drop-append-le, take-append-drop, take_at, drop_at, take_all, nil_from_length, length-take-le, take_more}
 use Rattle.std.proofs.lemmas.List.{map-append, map-set, set_split}
-use Rattle.std.proofs.lemmas.Option.{slice_get-map, slice_get-get_or}
+use Rattle.std.proofs.lemmas.Option.{slice_get-map, slice_get-get_or, get_or_from_slice_get}
 use Rattle.std.proofs.lemmas.Nat.{mul-le, div-mul-add, mod-mul-add, div-add-mod', mod_below}
 use Rattle.zv_ule.specs.declared.error.TyName.{TyName}
 use Rattle.zv_ule.specs.declared.error.UleError.{UleError}
@@ -100,6 +100,34 @@ edit w i j k b c added pos order le long told =
           ∙ faults_joined f (take i (chunks_of w b)) _ ((faults_split f i _ p.1).0) (faults_joined f added _ h ((faults_split f j _ p.1).1));
     }
 
+-- the chunks from i to before j alone
+pub part : (w i j : ℕ) (b : List ℕ) → 0 < w → i ≤ j → j ≤ length (chunks_of w b) →
+    IsEdit w b (slice_range b (i * w) (j * w)) [] (slice_range (chunks_of w b) i j)
+part w i j b pos order le =
+    let n = length b / w in
+    let k = j - i in
+    let low = drop (i * w) b in
+    let held = take (k * w) low in
+    let count : n ≡ j + (n - j) = omega (arith, le, length-chunks w n b) in
+    let sum : i + k ≡ j = omega (arith, order) in
+    let times : j * w ≡ i * w + k * w = ap (λ x. x * w) (sym sum) ∙ add_times i k w in
+    let size : length b ≡ j * w + (n - j) * w + length b % w =
+    omega (arith, div-add-mod' (length b) w, ap (λ x. x * w) count, add_times j (n - j) w) in
+    let first = split_chunks w n i (n - i) b (omega (arith, order, count)) (omega (arith, size, times)) in
+    let left : length low ≡ k * w + (n - j) * w + length b % w = omega (arith, length-drop (i * w) b, size, times) in
+    let second = split_chunks w (n - i) k (n - j) low (omega (arith, order, count)) (omega (arith, left)) in
+    let long : length held ≡ k * w + 0 = length-take-le (k * w) low (omega (arith, left)) ∙ omega arith in
+    let same : slice_range b (i * w) (j * w) ≡ held = ap (λ m. take m low) (omega (arith, times)) in
+    let are : chunks_of w held ≡ slice_range (chunks_of w b) i j =
+    ap (λ m. chunks w m held) (ap (λ m. m / w) long ∙ div-mul-add k w 0 pos) ∙ sym (ap (take k) first.1 ∙ second.0) in
+    record {
+      chunks = ap (chunks_of w) same ∙ are;
+      good = λ ty f h all.
+          let kept = faults_split f k (drop i (chunks_of w b)) ((faults_split f i _ ((whole_if ty w f b all).1)).1) in
+          ap (chunks_fault ty w f) same
+          ∙ (whole_fault ty w f held (ap (λ x. x % w) long ∙ mod-mul-add k w 0 pos) ∙ (ap (first_fault f) are ∙ kept.0));
+    }
+
 -- one chunk alone
 pub one_chunk : (w : ℕ) (c : List ℕ) → length c ≡ w → chunks w 1 c ≡ c ∷ []
 one_chunk w c long = ap (λ l. l ∷ []) (take_all w c (omega (arith, long)))
@@ -129,6 +157,11 @@ module _ (w i a : ℕ) (held old new : List ℕ) (usable : IsTrue (is_width w)) 
       let next : e ≡ suc i * w = omega (arith, end, at, suc-mul i w) in
       rw (is, same, next, at) (edit w i (suc i) 0 old [] [] (width_pos w usable) (omega arith) (omega (arith, lt)) (omega arith) refl)
 
+-- the chunks from i to before j, held alone
+pub kept : (w i j a e : ℕ) (held old new : List ℕ) → IsTrue (is_width w) → held ≡ old → a ≡ i * w → e ≡ j * w → i ≤ j → j ≤ length (chunks_of w old) →
+    new ≡ slice_range held a e → IsEdit w held new [] (slice_range (chunks_of w old) i j)
+kept w i j a e held old new usable same from to order le is = rw (is, same, from, to) (part w i j old (width_pos w usable) order le)
+
 -- ---- values
 
 map_splice : {X Y : Type 0} (f : X → Y) (xs : List X) (i j : ℕ) (ys : List X) → map f (splice xs i j ys) ≡ splice (map f xs) i j (map f ys)
@@ -147,3 +180,19 @@ module _ {X : Type 0} (value : List ℕ → X) (cs new : List (List ℕ)) (vs : 
   -- the value of a chunk
   pub value_there : (c : List ℕ) → i < length cs → c ≡ get_or cs i [] → slice_get vs i ≡ Some (value c)
   value_there c lt is = rw (← read, is) (slice_get-map value cs i ∙ ap (option_map value) (slice_get-get_or cs i [] lt))
+
+map_range : {X Y : Type 0} (f : X → Y) (xs : List X) (i j : ℕ) → map f (slice_range xs i j) ≡ slice_range (map f xs) i j
+map_range f xs i j = sym (ap (take (j - i)) (drop-map f i xs) ∙ take-map f (j - i) (drop i xs))
+
+-- the values of the chunks from i to before j
+pub values_between : {X : Type 0} (value : List ℕ → X) (w i j : ℕ) (held new : List ℕ) → chunks_of w new ≡ slice_range (chunks_of w held) i j →
+    map value (chunks_of w new) ≡ slice_range (map value (chunks_of w held)) i j
+values_between value w i j held new is = ap (map value) is ∙ map_range value (chunks_of w held) i j
+
+-- ---- ends of a list
+
+-- a list is those before its last element and the last
+pub last_of : {X : Type 0} (xs : List X) (i : ℕ) (x : X) → i + 1 ≡ length xs → slice_get xs i ≡ Some x → xs ≡ slice_range xs 0 i ++ x ∷ []
+last_of xs i x is there =
+    sym (take_all (i + 1) xs (omega (arith, is))) ∙ (take_more xs i x (omega (arith, is))
+    ∙ (ap (λ y. take i xs ++ y ∷ []) (get_or_from_slice_get xs i x x there) ∙ ap (λ n. take n xs ++ x ∷ []) (omega arith)))

@@ -1,7 +1,7 @@
 // Bytes that are borrowed until the first change, and then owned.
 ghost use Rattle.std.specs.Prelude.{◌≡◌, ◌+◌, ◌-◌, ◌^◌, ◌<◌, ◌≤◌, [], ◌++◌, length};
 ghost use Rattle.std.specs.Prelude.{true, false, None, IsTrue, IfOk, IsOk, OnOk, OnErr};
-ghost use Rattle.std.specs.Prelude.{MatchOption, vec_capacity, vec_len};
+ghost use Rattle.std.specs.Prelude.{MatchOption, slice_range, vec_capacity, vec_len};
 ghost use Rattle.std.specs.List.{remove_range, splice};
 ghost use Rattle.zv_fixed.specs.CowBytes.{bytes_in, owned_in, spare_in, IsUnchanged};
 
@@ -52,6 +52,71 @@ impl<'a> CowBytes<'a> {
         }
     }
 
+    /// How many more bytes fit without memory.
+    #[inline]
+    pub fn spare(&self) -> usize
+        ensures { result ≡ spare_in self.now }
+    {
+        match self {
+            CowBytes::Borrowed(_) => 0,
+            CowBytes::Owned(bytes) => bytes.capacity() - bytes.len(),
+        }
+    }
+
+    /// Makes the bytes owned, with room for `more`.
+    pub fn reserve(&mut self, alloc: Global, more: usize) -> Result<(), NoMemory>
+        ensures bytes { bytes_in self.new ≡ bytes_in self.old }
+        ensures room { OnOk result (more ≤ spare_in self.new) }
+        ensures owned { OnOk result (owned_in self.new ≡ true) }
+        ensures err { OnErr result (IsUnchanged self.old self.new) }
+        ensures fits { more ≤ spare_in self.old → owned_in self.old ≡ true → IsOk result }
+        ensures spare { spare_in self.old ≤ spare_in self.new }
+    {
+        match self {
+            CowBytes::Borrowed(bytes) => {
+                let capacity = bytes.len().checked_add(more).ok_or(NoMemory)?;
+                let mut owned = Vec::with_capacity(alloc, capacity)?;
+                owned.extend_from_slice(bytes)?;
+                *self = CowBytes::Owned(owned);
+            }
+            CowBytes::Owned(bytes) => bytes.reserve(more)?,
+        }
+        Ok(())
+    }
+
+    /// The same bytes in memory of their own: that which they lie in, if they are owned.
+    pub fn into_owned(self, alloc: Global) -> Result<CowBytes<'static>, NoMemory>
+        ensures bytes { IfOk result (λ h. bytes_in h ≡ bytes_in self.entry) }
+        ensures owned { IfOk result (λ h. owned_in h ≡ true) }
+        ensures spare { IfOk result (λ h. spare_in self.entry ≤ spare_in h) }
+        ensures fits { owned_in self.entry ≡ true → IsOk result }
+    {
+        match self {
+            CowBytes::Borrowed(bytes) => Ok(CowBytes::Owned(Vec::from_slice(alloc, bytes)?)),
+            CowBytes::Owned(bytes) => Ok(CowBytes::Owned(bytes)),
+        }
+    }
+
+    /// Keeps the bytes from one place up to another. It takes no memory.
+    pub fn keep(&mut self, start: usize, end: usize)
+        requires order { start ≤ end }
+        requires place { end ≤ length (bytes_in self.old) }
+        ensures bytes { bytes_in self.new ≡ slice_range (bytes_in self.old) start end }
+        ensures owned { owned_in self.new ≡ owned_in self.old }
+        ensures spare { spare_in self.old ≤ spare_in self.new }
+    {
+        match self {
+            CowBytes::Borrowed(bytes) => *bytes = &bytes[start..end],
+            CowBytes::Owned(bytes) => {
+                bytes.truncate(end);
+                if start > 0 {
+                    bytes.copy_within(start.., 0);
+                    bytes.truncate(end - start);
+                }
+            }
+        }
+    }
+
     /// Takes all bytes away and keeps the memory.
     pub fn clear(&mut self)
         ensures bytes { bytes_in self.new ≡ [] }
@@ -76,10 +141,11 @@ impl<'a> CowBytes<'a> {
         }
     }
 
-    /// Writes an argument between the bytes before a place and those from it on.
+    /// Writes an argument between the bytes before a place and those from it on. Borrowed bytes
+    /// need an allocator.
     pub fn insert<K: ZvKind, Q: ZvArg<K>>(
         &mut self,
-        alloc: Global,
+        alloc: Option<Global>,
         at: usize,
         value: &Q,
     ) -> Result<(), NoMemory>
@@ -105,10 +171,12 @@ impl<'a> CowBytes<'a> {
         }
     }
 
-    /// Writes an argument over the bytes from one place up to another.
+    /// Writes an argument over the bytes from one place up to another. Borrowed bytes need an
+    /// allocator.
+    #[inline]
     pub fn set<K: ZvKind, Q: ZvArg<K>>(
         &mut self,
-        alloc: Global,
+        alloc: Option<Global>,
         start: usize,
         end: usize,
         value: &Q,
@@ -123,6 +191,7 @@ impl<'a> CowBytes<'a> {
         ensures err { OnErr result (IsUnchanged self.old self.new) }
         ensures fits { owned_in self.old ≡ true → IsOk result }
         ensures spare { spare_in self.old ≤ spare_in self.new }
+        ensures in_place { owned_in self.old ≡ true → spare_in self.new ≡ spare_in self.old }
         ensures spells { K.fault (Q.bytes value.now) ≡ None }
     {
         match self {
@@ -134,8 +203,13 @@ impl<'a> CowBytes<'a> {
         Ok(())
     }
 
-    /// Takes the bytes from one place up to another away.
-    pub fn remove(&mut self, alloc: Global, start: usize, end: usize) -> Result<(), NoMemory>
+    /// Takes the bytes from one place up to another away. Borrowed bytes need an allocator.
+    pub fn remove(
+        &mut self,
+        alloc: Option<Global>,
+        start: usize,
+        end: usize,
+    ) -> Result<(), NoMemory>
         requires order { start ≤ end }
         requires place { end ≤ length (bytes_in self.old) }
         ensures ok { OnOk result (bytes_in self.new
@@ -147,6 +221,7 @@ impl<'a> CowBytes<'a> {
     {
         match self {
             CowBytes::Borrowed(bytes) => {
+                let alloc = alloc.ok_or(NoMemory)?;
                 let mut kept = Vec::with_capacity(alloc, bytes.len() - (end - start))?;
                 kept.extend_from_slice(&bytes[..start])?;
                 kept.extend_from_slice(&bytes[end..])?;
@@ -163,7 +238,7 @@ impl<'a> CowBytes<'a> {
 
 /// New bytes: those in front, what the argument writes, and those behind.
 fn joined<K: ZvKind, Q: ZvArg<K>>(
-    alloc: Global,
+    alloc: Option<Global>,
     front: &[u8],
     value: &Q,
     back: &[u8],
@@ -176,7 +251,7 @@ fn joined<K: ZvKind, Q: ZvArg<K>>(
     let start = front.len();
     let end = start.checked_add(value.arg_len()).ok_or(NoMemory)?;
     let len = end.checked_add(back.len()).ok_or(NoMemory)?;
-    let mut bytes = Vec::with_capacity(alloc, len)?;
+    let mut bytes = Vec::with_capacity(alloc.ok_or(NoMemory)?, len)?;
     bytes.extend_from_slice(front)?;
     bytes.resize(end, 0)?;
     value.arg_write(&mut bytes[start..end]);

@@ -3,7 +3,7 @@ use Rattle.std.proofs.lemmas.Result.{on_ok_weaker}
 use Rattle.zv_ule.specs.Chunks.{chunks_of, chunks_fault, values_of}
 use Rattle.zv_ule.proofs.ChunkFaults.{one_good}
 use Rattle.zv_fixed.proofs.ChunkEdits.{after_either, inserted, values_inserted}
-use Rattle.zv_fixed.proofs.vector.ZeroVec.insert_arg.Goals as goal
+use Rattle.zv_fixed.proofs.vector.ZeroVec.insert_with.Goals as goal
 
 pub invariant_of-self : goal.invariant_of-self
 invariant_of-self g c =
@@ -31,3 +31,8 @@ returns-clause-values g c =
     let value = λ (b : List ℕ). g.T.AsULE.loaded (u.value b) in
     let read = ap (values_of u.width value) (sym (ap (λ v. v.bytes) c.self.view_is)) ∙ ap (λ v. v.values) c.self.view_is in
     on_ok_weaker c.insert.result (λ e. values_inserted value (chunks_of u.width c.args.self.now.bytes) _ _ c.args.index read _ e) (returns-clause-ok g c)
+
+pub returns-clause-long : goal.returns-clause-long
+returns-clause-long g c =
+    let u = g.T.ULE.ULE in
+    (one_good u.TY u.width u.chunk_fault _ (sym (g.met.T.AsULE.kind.errors _) ∙ c.insert.ensures.spells)).0

@@ -3,7 +3,7 @@ use Rattle.std.proofs.lemmas.Result.{on_ok_weaker}
 use Rattle.zv_ule.specs.Chunks.{chunks_of, chunks_fault, values_of}
 use Rattle.zv_ule.proofs.ChunkFaults.{one_good}
 use Rattle.zv_fixed.proofs.ChunkEdits.{after_either, end_in, replaced, values_replaced}
-use Rattle.zv_fixed.proofs.vector.ZeroVec.set_arg.Goals as goal
+use Rattle.zv_fixed.proofs.vector.ZeroVec.set_with.Goals as goal
 
 pub set-requires-clause-place : goal.set-requires-clause-place
 set-requires-clause-place g c =
