@@ -1,10 +1,9 @@
 -- A list that was changed within the size rule can still be written.
-use Rattle.std.proofs.Common.{◌≡◌, ℕ, zero, suc, ◌+◌, ◌-◌, ◌*◌, ◌^◌, ◌<◌, ◌≤◌, Bool, true, false, ◌||◌, nat_lt, nat_le, List, [], ◌∷◌, ◌++◌, length, take, drop}
+use Rattle.std.proofs.Common.{◌≡◌, ℕ, zero, suc, ◌+◌, ◌-◌, ◌*◌, ◌^◌, ◌<◌, ◌≤◌, true, nat_lt, List, [], ◌∷◌, ◌++◌, length, take, drop}
 use Rattle.std.proofs.Common.{set, slice_index_or, refl, ◌∙◌, ap, sym, subst, arith, length-append, mul-le-mul_left, inl, inr}
-use Rattle.std.proofs.Math.Nat.{mul-suc, mul-zero, pow-suc}
-use Rattle.std.proofs.lemmas.Bool.{and_parts, cases_lt}
-use Rattle.std.proofs.lemmas.List.{append-nil, drop_all, length-set, take-append-drop, take_all}
-use Rattle.std.proofs.lemmas.List.Edits.{length-insert}
+use Rattle.std.proofs.Math.Nat.{mul-add, mul-one, mul-suc, mul-zero, pow-suc}
+use Rattle.std.proofs.lemmas.Bool.{cases_lt}
+use Rattle.std.proofs.lemmas.List.{drop-drop, take-append-drop}
 use Rattle.std.proofs.lemmas.List.Folds.{concat-append}
 use Rattle.std.specs.List.{concat, insert, remove}
 use Rattle.zv_var.specs.Format.{codable, fits, starts_from}
@@ -12,15 +11,29 @@ use Rattle.zv_var.proofs.Encoding.{from_codable, length-enc}
 use Rattle.zv_owned.specs.Size.{max_of, size, takes_insert, takes_replace}
 use Rattle.zv_owned.proofs.Starts.{AreBelow, all_fit, below_changed, below_end}
 
-is_below : (m n : ℕ) → m < n → nat_lt m n ≡ true
+pub is_below : (m n : ℕ) → m < n → nat_lt m n ≡ true
 is_below m n h = grind arith
-
-pub is_at_most : (m n : ℕ) → nat_le m n ≡ true → m ≤ n
-is_at_most m n e = grind arith
 
 pub power_some : (v : ℕ) → 0 < 256 ^ v
 power_some zero = omega arith
 power_some (suc v) = omega (arith, power_some v, pow-suc 256 v)
+
+-- what the size rule says of an insertion and of a replacement
+pub insert_short : (w : ℕ) (xs : List (List ℕ)) (n : ℕ) → takes_insert w xs n ≡ true → n < max_of w
+insert_short w [] n t = grind arith
+insert_short w (x ∷ xs) n t = grind arith
+
+pub insert_room : (w : ℕ) (x : List ℕ) (xs : List (List ℕ)) (n : ℕ) → takes_insert w (x ∷ xs) n ≡ true → size w (x ∷ xs) + n + w ≤ max_of w
+insert_room w x xs n t = grind arith
+
+pub insert_taken : (w : ℕ) (x : List ℕ) (xs : List (List ℕ)) (n : ℕ) → n < max_of w → size w (x ∷ xs) + n + w ≤ max_of w → takes_insert w (x ∷ xs) n ≡ true
+insert_taken w x xs n h k = grind arith
+
+pub replace_short : (w : ℕ) (xs : List (List ℕ)) (old n : ℕ) → takes_replace w xs old n ≡ true → n < max_of w
+replace_short w xs old n t = grind arith
+
+longer_taken : (w : ℕ) (xs : List (List ℕ)) (old n : ℕ) → takes_replace w xs old n ≡ true → old < n → size w xs + n ≤ max_of w + old
+longer_taken w xs old n t h = grind arith
 
 -- What codable says, of any list.
 pub record FitsFields (w : ℕ) (xs : List (List ℕ)) : Type 0 where
@@ -60,7 +73,11 @@ bytes_between front mid back =
     let b = ap length (concat-append mid back) in
     omega (arith, a, b, length-append (concat front) (concat (mid ++ back)), length-append (concat mid) (concat back))
 
--- A list is two parts with one element between them.
+-- A list is its parts: one element between two, or any number of them.
+pub in_parts : (xs : List (List ℕ)) (i j : ℕ) → take i xs ++ (take j (drop i xs) ++ drop (i + j) xs) ≡ xs
+in_parts xs i j = ap (λ (l : List (List ℕ)). take i xs ++ l) (ap (λ (l : List (List ℕ)). take j (drop i xs) ++ l) (sym (drop-drop j i xs))
+    ∙ take-append-drop j (drop i xs)) ∙ take-append-drop i xs
+
 pub split_at_element : (xs : List (List ℕ)) (i : ℕ) → i < length xs → take i xs ++ (slice_index_or xs i [] ∷ drop (suc i) xs) ≡ xs
 split_at_element [] i h = absurd (omega arith)
 split_at_element (x ∷ xs) zero h = refl
@@ -71,14 +88,30 @@ set_between [] i e h = absurd (omega arith)
 set_between (x ∷ xs) zero e h = refl
 set_between (x ∷ xs) (suc i) e h = ap (λ (l : List (List ℕ)). x ∷ l) (set_between xs i e (omega arith))
 
+-- how many bytes a list is written as
+pub size_of : (w : ℕ) (xs : List (List ℕ)) → size w xs ≡ w * length xs + length (concat xs)
+size_of w [] = omega (arith, mul-zero w)
+size_of w (x ∷ xs) = let n : length xs + 1 ≡ suc (length xs) = omega arith in length-enc w x xs ∙ ap (λ (k : ℕ). w * k + length (concat (x ∷ xs))) n
+
+pub fields_between : (w : ℕ) (front mid back : List (List ℕ)) →
+    w * length (front ++ (mid ++ back)) ≡ w * length front + (w * length mid + w * length back)
+fields_between w front mid back = ap (λ (k : ℕ). w * k) (length_between front mid back)
+    ∙ (mul-add w (length front) (length mid + length back) ∙ ap (λ (k : ℕ). w * length front + k) (mul-add w (length mid) (length back)))
+
+-- how much longer a list is with other elements between two parts
+pub size_between : (w : ℕ) (front old new back : List (List ℕ)) → size w (front ++ (new ++ back)) + (w * length old + length (concat old)) ≡
+    size w (front ++ (old ++ back)) + (w * length new + length (concat new))
+size_between w front old new back = omega (
+  arith,
+  size_of w (front ++ (new ++ back)),
+  size_of w (front ++ (old ++ back)),
+  fields_between w front new back,
+  fields_between w front old back,
+  bytes_between front new back,
+  bytes_between front old back,
+)
+
 module _ (w : ℕ) (some : 0 < w) (narrow : 256 ^ w ≤ 2 ^ 32) where
-  pub size_of : (xs : List (List ℕ)) → 0 < length xs → size w xs ≡ w * length xs + length (concat xs)
-  size_of [] h = absurd (omega arith)
-  size_of (x ∷ xs) h = let n : length xs + 1 ≡ suc (length xs) = omega arith in length-enc w x xs ∙ ap (λ (k : ℕ). w * k + length (concat (x ∷ xs))) n
-
-  pub more_times : (n m : ℕ) → m ≡ n + 1 → w * m ≡ w * n + w
-  more_times n m e = let k : m ≡ suc n = omega arith in ap (λ (j : ℕ). w * j) k ∙ mul-suc w n
-
   some_times : (n : ℕ) → n ≤ w * n
   some_times zero = omega arith
   some_times (suc n) = omega (arith, some_times n, mul-suc w n)
@@ -87,7 +120,7 @@ module _ (w : ℕ) (some : 0 < w) (narrow : 256 ^ w ≤ 2 ^ 32) where
   pub codable_from_size : (xs : List (List ℕ)) → size w xs < 256 ^ w → codable w xs ≡ true
   codable_from_size [] h = refl
   codable_from_size (x ∷ xs) h =
-      let l = size_of (x ∷ xs) (omega arith) in
+      let l = size_of w (x ∷ xs) in
       let m = mul-suc w (length xs) in
       let n : length (x ∷ xs) - 1 ≡ length xs = omega arith in
       can_write w (x ∷ xs) (record {
@@ -120,79 +153,41 @@ module _ (w : ℕ) (some : 0 < w) (narrow : 256 ^ w ≤ 2 ^ 32) where
         starts = below_changed (256 ^ w) 0 front old new back l k h f.starts;
       })
 
+  -- elements in place of others, where the list stays small
+  grown_codable : (front old new back : List (List ℕ)) →
+      size w (front ++ (old ++ back)) + (w * length new + length (concat new)) < 256 ^ w + (w * length old + length (concat old)) →
+      codable w (front ++ (new ++ back)) ≡ true
+  grown_codable front old new back h = codable_from_size (front ++ (new ++ back)) (omega (arith, size_between w front old new back))
+
   -- after an insertion, and after a replacement, that the size rule takes, and after any removal
   pub insert_codable : (xs : List (List ℕ)) (i : ℕ) (e : List ℕ) → i ≤ length xs → takes_insert w xs (length e) ≡ true → codable w (insert xs i e) ≡ true
   insert_codable [] zero e h k = codable_one e
   insert_codable [] (suc i) e h k = absurd (omega arith)
   insert_codable (x ∷ xs) i e h k =
-      let ys : List (List ℕ) = x ∷ xs in
-      let t = is_at_most (size w ys + length e + w) (max_of w) (and_parts (nat_lt (length e) (max_of w)) _ k).1 in
-      let l = length-insert ys i e h in
-      let old = ap (λ (l : List (List ℕ)). length (concat l)) (take-append-drop i ys) in
-      let a = bytes_between (take i ys) [] (drop i ys) in
-      let b = bytes_between (take i ys) (e ∷ []) (drop i ys) in
-      codable_from_size (insert ys i e) (omega (
-        arith,
-        t,
-        power_some w,
-        l,
-        more_times (length ys) (length (insert ys i e)) l,
-        size_of (insert ys i e) (omega (arith, l)),
-        size_of ys (omega arith),
-        old,
-        a,
-        b,
-        length-append e [],
-      ))
+      let t = insert_room w x xs (length e) k in
+      let was = take-append-drop i (x ∷ xs) in
+      grown_codable (take i (x ∷ xs)) [] (e ∷ []) (drop i (x ∷ xs))
+      (omega (arith, t, ap (λ (l : List (List ℕ)). size w l) was, power_some w, length-append e [], mul-one w))
 
   pub replace_codable : (xs : List (List ℕ)) (i : ℕ) (e : List ℕ) → i < length xs → codable w xs ≡ true →
       takes_replace w xs (length (slice_index_or xs i [])) (length e) ≡ true → codable w (set xs i e) ≡ true
   replace_codable xs i e h c k =
       let old : List ℕ = slice_index_or xs i [] in
-      let front : List (List ℕ) = take i xs in
-      let back : List (List ℕ) = drop (suc i) xs in
       let was = split_at_element xs i h in
-      let is = set_between xs i e h in
-      let by : (b : Bool) → nat_le (length e) (length old) ≡ b → (b || nat_le (size w xs + length e) (max_of w + length old)) ≡ true →
-      codable w (set xs i e) ≡ true = elim [
-        | true ↦ λ s q.
-            let n : length (e ++ []) ≤ length (old ++ []) = omega (arith, is_at_most (length e) (length old) s, length-append e [], length-append old []) in
-            subst (λ (l : List (List ℕ)). codable w l ≡ true) is
-            (shorter_codable front (old ∷ []) (e ∷ []) back (omega arith) (omega arith) n (subst (λ (l : List (List ℕ)). codable w l ≡ true) (sym was) c))
-        | false ↦ λ s q.
-            let t = is_at_most (size w xs + length e) (max_of w + length old) q in
-            let l : length (set xs i e) ≡ length xs = length-set xs i e in
-            let m : w * length (set xs i e) ≡ w * length xs = ap (λ (n : ℕ). w * n) l in
-            let a = ap (λ (l : List (List ℕ)). length (concat l)) was in
-            let b = ap (λ (l : List (List ℕ)). length (concat l)) is in
-            codable_from_size (set xs i e) (omega (
-              arith,
-              t,
-              power_some w,
-              m,
-              size_of (set xs i e) (omega (arith, l, h)),
-              size_of xs (omega (arith, h)),
-              a,
-              b,
-              bytes_between front (old ∷ []) back,
-              bytes_between front (e ∷ []) back,
-              length-append e [],
-              length-append old [],
-            ))
-      ] in
-      by (nat_le (length e) (length old)) refl (and_parts (nat_lt (length e) (max_of w)) _ k).1
+      subst (λ (l : List (List ℕ)). codable w l ≡ true) (set_between xs i e h) (elim (cases_lt (length old) (length e)) [
+        | inl longer ↦
+            let t = longer_taken w xs (length old) (length e) k longer in
+            grown_codable (take i xs) (old ∷ []) (e ∷ []) (drop (suc i) xs)
+            (omega (arith, t, ap (λ (l : List (List ℕ)). size w l) was, power_some w, length-append e [], length-append old []))
+        | inr shorter ↦ shorter_codable (take i xs) (old ∷ []) (e ∷ []) (drop (suc i) xs) (omega arith) (omega arith)
+            (omega (arith, length-append e [], length-append old [])) (subst (λ (l : List (List ℕ)). codable w l ≡ true) (sym was) c)
+      ])
 
   pub remove_codable : (xs : List (List ℕ)) (i : ℕ) → codable w xs ≡ true → codable w (remove xs i) ≡ true
-  remove_codable xs i c = elim (cases_lt i (length xs)) [
-    | inl h ↦
-        let was = sym (split_at_element xs i h) in
-        shorter_codable (take i xs) (slice_index_or xs i [] ∷ []) [] (drop (suc i) xs) (omega arith) (omega arith) (omega arith)
-        (subst (λ (l : List (List ℕ)). codable w l ≡ true) was c)
-    | inr h ↦
-        let none : drop (suc i) xs ≡ [] = drop_all (suc i) xs (omega arith) in
-        let same : xs ≡ remove xs i = sym (ap (λ (l : List (List ℕ)). take i xs ++ l) none ∙ (append-nil (take i xs) ∙ take_all i xs h)) in
-        subst (λ (l : List (List ℕ)). codable w l ≡ true) same c
-  ]
+  remove_codable xs i c =
+      let k : i + 1 ≡ suc i = omega arith in
+      ap (λ (j : ℕ). codable w (take i xs ++ drop j xs)) (sym k) ∙ shorter_codable (take i xs) (take 1 (drop i xs)) [] (drop (i + 1) xs)
+      (omega arith) (omega arith) (omega arith) (subst (λ (l : List (List ℕ)). codable w l ≡ true) (sym (in_parts xs i 1)) c)
 
 pub shorter_taken : (w : ℕ) (xs : List (List ℕ)) (old n : ℕ) → n ≤ old → n < max_of w → takes_replace w xs old n ≡ true
 shorter_taken w xs old n h k = grind arith

@@ -1,5 +1,5 @@
 -- Elements that join a list one after another.
-use Rattle.std.proofs.Common.{◌≡◌, ℕ, ◌+◌, ◌*◌, ◌^◌, ◌<◌, ◌≤◌, true, nat_lt, nat_le, List, [], ◌∷◌, ◌++◌, length, refl, ap, arith, length-append, append_assoc}
+use Rattle.std.proofs.Common.{◌≡◌, ℕ, ◌+◌, ◌*◌, ◌^◌, ◌<◌, ◌≤◌, true, List, [], ◌∷◌, ◌++◌, length, refl, ap, arith, length-append, append_assoc}
 use Rattle.std.proofs.lemmas.List.{append-nil}
 use Rattle.std.proofs.lemmas.List.Elements.{All-from_recursion, recursion_from_All}
 use Rattle.std.proofs.lemmas.List.Sorted.{All-permutation, length_permutation, sum_by-IsPermutation}
@@ -8,17 +8,8 @@ use Rattle.std.specs.List.{AllByRecursion, concat, sum_by}
 use Rattle.std.specs.Prelude.{IsPermutation}
 use Rattle.zv_owned.specs.Size.{max_of, size, takes_insert, takes_pushes}
 use Rattle.std.proofs.lemmas.Bool.{and_parts}
-use Rattle.std.proofs.lemmas.List.Folds.{concat-append}
-use Rattle.zv_owned.proofs.Codable.{is_at_most, more_times, size_of}
-
-below : (m n : ℕ) → m < n → nat_lt m n ≡ true
-below m n h = grind arith
-
-above : (m n : ℕ) → nat_lt m n ≡ true → m < n
-above m n e = grind arith
-
-at_most : (m n : ℕ) → m ≤ n → nat_le m n ≡ true
-at_most m n h = grind arith
+use Rattle.std.proofs.Math.Nat.{mul-one, mul-zero}
+use Rattle.zv_owned.proofs.Codable.{insert_room, insert_short, insert_taken, is_below, size_between, size_of}
 
 -- where every list takes every element
 pub always_taken : (xs es : List (List ℕ)) → takes_pushes (λ _ _. true) xs es ≡ true
@@ -34,28 +25,16 @@ module _ (w : ℕ) (some : 0 < w) (narrow : 256 ^ w ≤ 2 ^ 32) where
   abbrev IsShort : List ℕ → Type 0
   IsShort e = length e < max_of w
 
-  one_short : (xs : List (List ℕ)) (n : ℕ) → takes_insert w xs n ≡ true → n < max_of w
-  one_short [] n t = above n (max_of w) t
-  one_short (x ∷ xs) n t = above n (max_of w) (and_parts (nat_lt n (max_of w)) _ t).0
-
   all_short : (xs es : List (List ℕ)) → takes_pushes (takes_insert w) xs es ≡ true → AllByRecursion IsShort es
   all_short xs [] t = tt
   all_short xs (e ∷ es) t =
       let b = and_parts (takes_insert w xs (length e)) _ t in
-      (one_short xs (length e) b.0, all_short (xs ++ (e ∷ [])) es b.1)
+      (insert_short w xs (length e) b.0, all_short (xs ++ (e ∷ [])) es b.1)
 
   size_pushed : (x : List ℕ) (xs : List (List ℕ)) (e : List ℕ) → size w (x ∷ (xs ++ (e ∷ []))) ≡ size w (x ∷ xs) + length e + w
   size_pushed x xs e =
-      let l : length (x ∷ (xs ++ (e ∷ []))) ≡ length (x ∷ xs) + 1 = omega (arith, length-append xs (e ∷ [])) in
-      let d : length (concat ((x ∷ xs) ++ (e ∷ []))) ≡ length (concat (x ∷ xs)) + length e =
-      omega (arith, ap length (concat-append (x ∷ xs) (e ∷ [])), length-append (concat (x ∷ xs)) (concat (e ∷ [])), length-append e []) in
-      omega (
-        arith,
-        size_of w some narrow (x ∷ (xs ++ (e ∷ []))) (omega arith),
-        size_of w some narrow (x ∷ xs) (omega arith),
-        more_times w some narrow (length (x ∷ xs)) _ l,
-        d,
-      )
+      let old = ap (λ (l : List (List ℕ)). size w (x ∷ l)) (append-nil xs) in
+      omega (arith, size_between w (x ∷ xs) [] (e ∷ []) [], old, mul-zero w, mul-one w, length-append e [])
 
   pushed_next : (x : List ℕ) (xs : List (List ℕ)) (e : List ℕ) (es : List (List ℕ)) → x ∷ ((xs ++ (e ∷ [])) ++ es) ≡ x ∷ (xs ++ (e ∷ es))
   pushed_next x xs e es = ap (λ (l : List (List ℕ)). x ∷ l) (append_assoc xs (e ∷ []) es)
@@ -70,8 +49,7 @@ module _ (w : ℕ) (some : 0 < w) (narrow : 256 ^ w ≤ 2 ^ 32) where
       size w (x ∷ (xs ++ (e ∷ es))) ≤ max_of w
   within x xs e [] t =
       let b = and_parts (takes_insert w (x ∷ xs) (length e)) _ t in
-      let k = is_at_most (size w (x ∷ xs) + length e + w) (max_of w) (and_parts (nat_lt (length e) (max_of w)) _ b.0).1 in
-      omega (arith, k, size_pushed x xs e)
+      omega (arith, insert_room w x xs (length e) b.0, size_pushed x xs e)
   within x xs e (f ∷ es) t =
       let b = and_parts (takes_insert w (x ∷ xs) (length e)) _ t in
       omega (arith, within x (xs ++ (e ∷ [])) f es b.1, ap (λ (l : List (List ℕ)). size w l) (pushed_next x xs e (f ∷ es)))
@@ -82,21 +60,12 @@ module _ (w : ℕ) (some : 0 < w) (narrow : 256 ^ w ≤ 2 ^ 32) where
   takes_within x xs (e ∷ es) short h =
       let s : size w (x ∷ ((xs ++ (e ∷ [])) ++ es)) ≤ max_of w = omega (arith, h, ap (λ (l : List (List ℕ)). size w l) (pushed_next x xs e es)) in
       let k : size w (x ∷ xs) + length e + w ≤ max_of w = omega (arith, s, size_pushed x xs e, size_rises x (xs ++ (e ∷ [])) es) in
-      rw (below (length e) (max_of w) short.0, at_most (size w (x ∷ xs) + length e + w) (max_of w) k) (takes_within x (xs ++ (e ∷ [])) es short.1 s)
+      rw (insert_taken w x xs (length e) short.0 k) (takes_within x (xs ++ (e ∷ [])) es short.1 s)
 
-  size_permuted : (xs ys : List (List ℕ)) → IsPermutation xs ys → 0 < length xs → size w ys ≡ size w xs
-  size_permuted xs ys p h =
-      let l : length ys ≡ length xs = length_permutation xs ys p in
-      let m : w * length ys ≡ w * length xs = ap (λ (n : ℕ). w * n) l in
-      omega (
-        arith,
-        size_of w some narrow xs h,
-        size_of w some narrow ys (omega (arith, l, h)),
-        m,
-        length_concat xs,
-        length_concat ys,
-        sum_by-IsPermutation (λ x. length x) xs ys p,
-      )
+  size_permuted : (xs ys : List (List ℕ)) → IsPermutation xs ys → size w ys ≡ size w xs
+  size_permuted xs ys p =
+      let m : w * length ys ≡ w * length xs = ap (λ (n : ℕ). w * n) (length_permutation xs ys p) in
+      omega (arith, size_of w xs, size_of w ys, m, length_concat xs, length_concat ys, sum_by-IsPermutation (λ x. length x) xs ys p)
 
   all_permuted : (xs ys : List (List ℕ)) → IsPermutation xs ys → AllByRecursion IsShort xs → AllByRecursion IsShort ys
   all_permuted xs ys p short = recursion_from_All IsShort ys (All-permutation IsShort xs ys p (All-from_recursion IsShort xs short))
@@ -107,11 +76,11 @@ module _ (w : ℕ) (some : 0 < w) (narrow : 256 ^ w ≤ 2 ^ 32) where
   within_permuted [] y z ys p t = absurd (omega (arith, length_permutation [] (y ∷ z ∷ ys) p))
   within_permuted (a ∷ []) y z ys p t = absurd (omega (arith, length_permutation (a ∷ []) (y ∷ z ∷ ys) p))
   within_permuted (a ∷ b ∷ xs) y z ys p t = omega
-      (arith, size_permuted (a ∷ b ∷ xs) (y ∷ z ∷ ys) p (omega arith), within a [] b xs (and_parts (takes_insert w [] (length a)) _ t).1)
+      (arith, size_permuted (a ∷ b ∷ xs) (y ∷ z ∷ ys) p, within a [] b xs (and_parts (takes_insert w [] (length a)) _ t).1)
 
   pub any_order : (xs ys : List (List ℕ)) → IsPermutation xs ys → takes_pushes (takes_insert w) [] xs ≡ true → takes_pushes (takes_insert w) [] ys ≡ true
   any_order xs [] p t = refl
-  any_order xs (y ∷ []) p t = rw (below (length y) (max_of w) (all_permuted xs (y ∷ []) p (all_short [] xs t)).0) refl
+  any_order xs (y ∷ []) p t = rw (is_below (length y) (max_of w) (all_permuted xs (y ∷ []) p (all_short [] xs t)).0) refl
   any_order xs (y ∷ z ∷ ys) p t =
       let short = all_permuted xs (y ∷ z ∷ ys) p (all_short [] xs t) in
-      rw (below (length y) (max_of w) short.0) (takes_within y [] (z ∷ ys) short.1 (within_permuted xs y z ys p t))
+      rw (is_below (length y) (max_of w) short.0) (takes_within y [] (z ∷ ys) short.1 (within_permuted xs y z ys p t))

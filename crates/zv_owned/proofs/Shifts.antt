@@ -1,9 +1,9 @@
 -- Fields whose numbers are raised and lowered.
-use Rattle.std.proofs.Common.{◌≡◌, ℕ, zero, suc, ◌+◌, ◌-◌, ◌*◌, ◌^◌, ◌%◌, ◌<◌, ◌≤◌, List, [], ◌∷◌, ◌++◌, length, take, drop, get_or, map, refl, ap, ◌∙◌}
-use Rattle.std.proofs.Common.{sym, arith, append_assoc, length-append}
+use Rattle.std.proofs.Common.{◌≡◌, ℕ, zero, suc, ◌+◌, ◌-◌, ◌*◌, ◌^◌, ◌%◌, ◌<◌, ◌≤◌, List, [], ◌∷◌, ◌++◌, length, take, drop, get_or, map, refl, ap, ◌∙◌, sym}
+use Rattle.std.proofs.Common.{arith, append_assoc, length-append}
 use Rattle.std.proofs.Math.Nat.{mod-eq_of_lt}
 use Rattle.std.proofs.lemmas.Grind.{flat_map-append}
-use Rattle.std.proofs.lemmas.List.{append-nil, at_drop_more, drop-drop, drop_at, length-map, length-take-le, map-append, take_all, take_at, take_more}
+use Rattle.std.proofs.lemmas.List.{append-nil, at_drop_more, drop_at, length-map, length-take-le, map-append, take_all, take_at, take_more}
 use Rattle.std.specs.List.{AllByRecursion, flat_map, splice}
 use Rattle.zv_ule.specs.Bytes.{le, number}
 use Rattle.zv_ule.proofs.Fields.{length-le, number-le}
@@ -52,8 +52,7 @@ put_back p x q y {b} {at} e h k =
     let front : take at b ≡ p = ap (λ (l : List ℕ). take at l) e ∙ take_at p (x ++ q) at h in
     let rest : drop (at + length y) b ≡ q = ap (λ (l : List ℕ). drop (at + length y) l) (e ∙ sym (append_assoc p x q))
     ∙ drop_at (p ++ x) q (at + length y) (omega (arith, length-append p x)) in
-    rw (front, rest) (take_all (length b) (p ++ (y ++ q)) (omega
-    (arith, ap length e, length-append p (x ++ q), length-append x q, length-append p (y ++ q), length-append y q)))
+    rw (front, rest) (take_all (length b) (p ++ (y ++ q)) (omega (arith, ap length e, length-append {A = ℕ})))
 
 -- the part
 pub lent : (p x q : List ℕ) {b : List ℕ} {at n : ℕ} → b ≡ p ++ (x ++ q) → length p ≡ at → length x ≡ n → take n (drop at b) ≡ x

@@ -1,5 +1,5 @@
 -- Where the elements of a list start, and the numbers that say so.
-use Rattle.std.proofs.Common.{◌≡◌, ℕ, zero, suc, ◌+◌, ◌^◌, ◌<◌, ◌≤◌, true, List, [], ◌∷◌, ◌++◌, length, take, refl, ap, ◌∙◌, subst, arith}
+use Rattle.std.proofs.Common.{◌≡◌, ℕ, ◌+◌, ◌^◌, ◌<◌, ◌≤◌, true, List, [], ◌∷◌, ◌++◌, length, refl, ap, ◌∙◌, subst, arith}
 use Rattle.std.proofs.Common.{length-append}
 use Rattle.std.specs.List.{AllByRecursion, concat, list_all}
 use Rattle.zv_var.specs.Format.{fits, starts_from}
@@ -10,11 +10,6 @@ starts_from-append n [] ys = ap (λ (k : ℕ). starts_from k ys) (omega arith)
 starts_from-append n (x ∷ xs) ys =
     let e : n + length x + length (concat xs) ≡ n + length (x ++ concat xs) = omega (arith, length-append x (concat xs)) in
     ap (λ (l : List ℕ). n ∷ l) (starts_from-append (n + length x) xs ys ∙ ap (λ (k : ℕ). starts_from (n + length x) xs ++ starts_from k ys) e)
-
-pub starts_from-take : (n k : ℕ) (xs : List (List ℕ)) → starts_from n (take k xs) ≡ take k (starts_from n xs)
-starts_from-take n zero xs = refl
-starts_from-take n (suc k) [] = refl
-starts_from-take n (suc k) (x ∷ xs) = ap (λ (l : List ℕ). n ∷ l) (starts_from-take (n + length x) k xs)
 
 -- each start of xs is below m, if the first is n
 abbrev pub AreBelow : ℕ → ℕ → List (List ℕ) → Type 0

@@ -1,7 +1,6 @@
 -- Changes of a list at a place. f is what is written for a value.
-use Rattle.std.specs.Prelude.{◌≡◌, ⊤, ℕ, ◌+◌, ◌*◌, ◌^◌, ◌<◌, ◌≤◌, ◌==◌, Bool, true, List, []}
-use Rattle.std.specs.Prelude.{length, set, slice_index_or, if◌then◌else◌, Some, None}
-use Rattle.std.specs.Prelude.{Result, Ok, Err}
+use Rattle.std.specs.Prelude.{⊤, ℕ, ◌^◌, ◌<◌, ◌≤◌, ◌==◌, Bool, true, List, [], length}
+use Rattle.std.specs.Prelude.{set, slice_index_or, if◌then◌else◌, Some, None, Result, Ok, Err}
 use Rattle.std.specs.List.{insert, remove}
 use Rattle.zv_owned.specs.Size.{takes_insert, takes_replace}
 use Rattle.zv_owned.specs.Splices.{most_steps}
@@ -51,8 +50,8 @@ module _ {A : Type 0} (f : A → List ℕ) where
   -- the most steps that it takes, in a list of `long` bytes: as many as the new element has bytes
   -- where it replaces one of the same length
   abbrev pub change_steps : ℕ → Change A → List (List ℕ) → ℕ → ℕ → ℕ
-  change_steps w (Insert a) xs long i = most_steps w (length xs) long i i (Some (length (f a.now)))
+  change_steps w (Insert a) xs long i = most_steps w (length xs) long i 0 (Some (length (f a.now)))
   change_steps w (Replace a) xs long i =
       if length (f a.now) == length (slice_index_or xs i []) then length (f a.now)
-      else most_steps w (length xs) long i (i + 1) (Some (length (f a.now)))
-  change_steps w Remove xs long i = most_steps w (length xs) long i (i + 1) None
+      else most_steps w (length xs) long i 1 (Some (length (f a.now)))
+  change_steps w Remove xs long i = most_steps w (length xs) long i 1 None

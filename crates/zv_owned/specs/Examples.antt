@@ -1,7 +1,8 @@
--- Worked examples of the size rule.
-use Rattle.std.specs.Prelude.{◌≡◌, ℕ, List, [], ◌∷◌, replicate, true, false, Ok, Err}
+-- Worked examples of the size rule and of the count of steps.
+use Rattle.std.specs.Prelude.{◌≡◌, ℕ, List, [], ◌∷◌, replicate, true, false, Ok, Err, Some, None}
 use Rattle.zv_owned.specs.Owned.{TooLargeUnless}
 use Rattle.zv_owned.specs.Size.{takes_insert, takes_pushes, takes_replace}
+use Rattle.zv_owned.specs.Splices.{most_steps}
 use Rattle.zv_owned.specs.declared.error.VecError.TheVariants.{TooLarge, Memory}
 
 -- the list of one element of n bytes
@@ -73,3 +74,22 @@ TakenMayWantMemory = TooLargeUnless {A = ℕ} true (Err Memory)
 -- and one that the rule does not take is too large
 abbrev pub NotTakenIsTooLarge : Type 0
 NotTakenIsTooLarge = TooLargeUnless {A = ℕ} false (Err TooLarge)
+
+-- with fields of two bytes, a first element of 2 bytes takes 10 steps at most: the 4 bytes of the
+-- encoding twice over, and the count
+abbrev pub FirstTakesTen : Type 0
+FirstTakesTen = most_steps 2 0 0 0 0 (Some 2) ≡ 10
+
+-- an element of 4 bytes before three others in 20 bytes: the 18 bytes after the count move, three
+-- starts and the count are written, and 6 bytes come, twice over
+abbrev pub FrontTakesThirtyEight : Type 0
+FrontTakesThirtyEight = most_steps 2 3 20 0 0 (Some 4) ≡ 38
+
+-- the second of three elements in 20 bytes goes: of the 18 bytes from its start on some move, and
+-- one start and the count are written
+abbrev pub SecondGoesInTwentyTwo : Type 0
+SecondGoesInTwentyTwo = most_steps 2 3 20 1 1 None ≡ 22
+
+-- an only element goes without a step
+abbrev pub OnlyGoesInNone : Type 0
+OnlyGoesInNone = most_steps 2 1 9 0 1 None ≡ 0

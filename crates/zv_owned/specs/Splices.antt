@@ -1,11 +1,13 @@
--- What a change brings into a list.
-use Rattle.std.specs.Prelude.{◌≡◌, ℕ, ◌+◌, ◌-◌, ◌*◌, ◌^◌, ◌<◌, ◌≤◌, List, ◌∷◌, ◌++◌, length}
-use Rattle.std.specs.Prelude.{Option, Some, None, map, max, if◌then◌else◌, ◌==◌}
+-- What a change brings into a list, and what it changes in the list's bytes. w is the width of a
+-- field in bytes.
+use Rattle.std.specs.Prelude.{[], ◌≡◌, ℕ, ◌+◌, ◌-◌, ◌*◌, ◌^◌, ◌<◌, ◌≤◌, ◌==◌, max, List, ◌++◌}
+use Rattle.std.specs.Prelude.{length, map, slice_index_or, if◌then◌else◌, Option, Some, None}
 use Rattle.std.specs.Borrow.{Bor}
-use Rattle.std.specs.List.{AllByRecursion, flat_map, concat}
-use Rattle.std.specs.Option.{option_map, option_to_list, unwrap_or}
+use Rattle.std.specs.List.{AllByRecursion, concat, flat_map}
+use Rattle.std.specs.Option.{ForSome, option_map, option_to_list}
 use Rattle.zv_ule.specs.Bytes.{le}
-use Rattle.zv_var.specs.Format.{starts}
+use Rattle.zv_ule.specs.declared.error.UleError.{UleError}
+use Rattle.zv_var.specs.Format.{elements, enc, list_fault, starts}
 use Rattle.zv_owned.specs.declared.writes.Edit.{Edit}
 
 -- what is written for an argument, if there is one
@@ -20,7 +22,7 @@ new_elements bytes value = option_to_list (new_bytes bytes value)
 abbrev pub shifted : ℕ → ℕ → ℕ → ℕ
 shifted into out s = s + into - out
 
--- each start fits a field of w bytes, before and after
+-- each start fits a field, before and after
 abbrev pub CanShift : ℕ → ℕ → ℕ → List ℕ → Type 0
 CanShift w into out ss =
     AllByRecursion (λ s. (s < 256 ^ w) × ((out ≤ s + into) × (s + into < out + 256 ^ w))) ss
@@ -30,57 +32,94 @@ abbrev pub Puts : List ℕ → ℕ → ℕ → List ℕ → List ℕ → Type 0
 Puts old at n y new = (p x q : List ℕ) → old ≡ p ++ (x ++ q) → length p ≡ at → length x ≡ n →
     new ≡ p ++ (y ++ q)
 
--- The change e of the bytes of a list, where `new` are the bytes of the new element: c is the
--- count, p the starts that stay, g those that go, ss those after them; d are the elements that stay
--- before the place, o those that go, t those after it.
+-- how many elements there are after the change
+abbrev pub count_after : Edit → ℕ
+count_after e = e.kept + length (option_to_list e.start) + e.later
+
+-- the change may be made in so many bytes, where `new` are those of the new element
+pub record CanEdit (w long : ℕ) (new : List ℕ) (e : Edit) : Type 0 where
+  pub kept : 0 < e.kept
+  pub inside : w * e.kept + w * e.gone + w * e.later + e.before + e.out ≤ long
+  pub short : long < 2 ^ 63
+  pub into : e.into ≡ length new
+  pub small : e.into < 2 ^ 32
+  pub start_fits : ForSome e.start (λ n. n < 256 ^ w)
+  pub count_fits : count_after e < 256 ^ w
+
+-- The bytes after the change: c is the count, ps the starts that stay, gs those that go, ss those
+-- after them; d are the elements that stay before the place, o those that go, t those after it.
 abbrev pub Edits : ℕ → Edit → List ℕ → List ℕ → List ℕ → Type 0
-Edits w e new old bytes = (c p g ss d o t : List ℕ) →
-    old ≡ (c ++ p) ++ (g ++ ((flat_map (le w) ss ++ d) ++ (o ++ t))) →
-    length c ≡ w → length (c ++ p) ≡ e.fields.at → length g ≡ e.fields.out →
-    length ss ≡ e.later → length ((c ++ p) ++ (g ++ (flat_map (le w) ss ++ d))) ≡ e.body.at →
-    length o ≡ e.body.out → CanShift w e.body.into e.body.out ss →
-    (e.fields.into ≡ e.fields.out → c ≡ le w e.count) →
-    bytes ≡ le w e.count ++ (p ++ (flat_map (le w) (option_to_list e.start) ++
-    (flat_map (le w) (map (shifted e.body.into e.body.out) ss) ++ (d ++ (new ++ t)))))
+Edits w e new old bytes = (c ps gs ss d o t : List ℕ) →
+    old ≡ (c ++ flat_map (le w) ps) ++
+    (flat_map (le w) gs ++ ((flat_map (le w) ss ++ d) ++ (o ++ t))) →
+    length c ≡ w → length ps + 1 ≡ e.kept → length gs ≡ e.gone → length ss ≡ e.later →
+    length d ≡ e.before → length o ≡ e.out → CanShift w e.into e.out ss →
+    (length (option_to_list e.start) ≡ e.gone → c ≡ le w (count_after e)) →
+    bytes ≡ le w (count_after e) ++ (flat_map (le w) ps ++ (flat_map (le w) (option_to_list e.start)
+    ++ (flat_map (le w) (map (shifted e.into e.out) ss) ++ (d ++ (new ++ t)))))
+
+-- what e says of how many there are
+pub record HasCounts (front gone back : List (List ℕ)) (o : Option (List ℕ)) (e : Edit)
+    (ps gs ss : List ℕ) : Type 0 where
+  pub kept : e.kept ≡ length ps + 1
+  pub left : e.gone ≡ length gs
+  pub later : e.later ≡ length ss
+  pub before : e.before ≡ length (concat front)
+  pub out : e.out ≡ length (concat gone)
+  pub into : e.into ≡ length (concat (option_to_list o))
+  pub some : 0 < length front + length gone + length back
+  pub left_some : 0 < length front + length (option_to_list o) + length back
+  pub place : max (length front) 1 ≤ e.kept
+  pub rest : e.later ≤ length back
+  pub brief : length (option_to_list e.start) ≤ length (option_to_list o)
+  pub in_place : length gone ≡ length (option_to_list o) →
+      (e.gone ≡ 0) × (length (option_to_list e.start) ≡ 0)
 
 -- e is the change of the bytes of a list in which, between the elements before and those after, the
--- elements `gone` give way to one of `new` bytes, or to none.
-pub record IsEdit (w : ℕ) (before gone after : List (List ℕ)) (new : Option ℕ) (e : Edit) :
-    Type 0 where
-  pub kept : List ℕ
-  pub left_out : List ℕ
-  pub later : List ℕ
-  pub old : starts (before ++ (gone ++ after)) ≡ kept ++ (left_out ++ later)
-  pub changed : (o : Option (List ℕ)) → option_map length o ≡ new →
-      starts (before ++ (option_to_list o ++ after)) ≡
-      kept ++ (option_to_list e.start ++ map (shifted e.body.into e.body.out) later)
-  pub above : AllByRecursion (λ s. e.body.out ≤ s + e.body.into) later
-  pub fields_at : e.fields.at ≡ w + w * length kept
-  pub fields_out : e.fields.out ≡ w * length left_out
-  pub fields_into : e.fields.into ≡ w * length (option_to_list e.start)
-  pub later_is : e.later ≡ length later
-  pub body_at : e.body.at ≡ w * length (before ++ (gone ++ after)) + length (concat before)
-  pub body_out : e.body.out ≡ length (concat gone)
-  pub body_into : e.body.into ≡ unwrap_or new 0
-  pub count : e.count ≡ length before + length (option_to_list new) + length after
-  pub tail : w * max (length before) 1 ≤ e.fields.at
-  pub few : e.later ≤ length after
-  pub brief : length (option_to_list e.start) ≤ length (option_to_list new)
-  pub in_place : length gone ≡ length (option_to_list new) →
-      (e.fields.out ≡ 0) × (e.start ≡ None)
+-- elements `gone` give way to o, or to nothing
+pub record IsEdit (front gone back : List (List ℕ)) (o : Option (List ℕ)) (e : Edit) : Type 0 where
+  pub ps : List ℕ
+  pub gs : List ℕ
+  pub ss : List ℕ
+  pub old : starts (front ++ (gone ++ back)) ≡ ps ++ (gs ++ ss)
+  pub new : starts (front ++ (option_to_list o ++ back)) ≡
+      ps ++ (option_to_list e.start ++ map (shifted e.into e.out) ss)
+  pub above : AllByRecursion (λ s. e.out ≤ s + e.into) ss
+  pub counts : HasCounts front gone back o e ps gs ss
 
 -- the most steps in which bytes become the encoding of one element of so many bytes, or of none
 abbrev pub begin_steps : ℕ → Option ℕ → ℕ
 begin_steps w None = 0
 begin_steps w (Some e) = w + 2 * (e + w)
 
--- How many bytes of a list of n elements in `long` bytes stand from place i on, with the starts
--- that do.
+-- how many bytes of a list of n elements in `long` bytes stand from place i on, with their starts
 abbrev pub tail_of : ℕ → ℕ → ℕ → ℕ → ℕ
 tail_of w n long i = if n == 0 then 0 else long - w * max i 1
 
--- the most steps in which the elements of such a list from place i to before j give way to one of
--- so many bytes, or to none
+-- the most steps in which the elements of such a list from place i on, `gone` of them, give way to
+-- one of so many bytes, or to none
 abbrev pub most_steps : ℕ → ℕ → ℕ → ℕ → ℕ → Option ℕ → ℕ
-most_steps w n long i j None = if n == 1 then 0 else tail_of w n long i + w * (n - j) + w
-most_steps w n long i j (Some e) = tail_of w n long i + w * (n - j) + w + 2 * (e + w)
+most_steps w n long i gone None = if n == 1 then 0
+    else tail_of w n long i + w * (n - i - gone) + w
+most_steps w n long i gone (Some e) =
+    tail_of w n long i + w * (n - i - gone) + w + 2 * (e + w)
+
+-- the most bytes that a list grows by where an element comes, or none
+abbrev pub most_growth : ℕ → Option (List ℕ) → ℕ
+most_growth w None = 0
+most_growth w (Some e) = length e + w
+
+-- A splice is made: the elements of xs from place i on, `gone` of them, gave way to o, or to
+-- nothing, and the list is ys. The old bytes had a spare, and the new ones have one; t is how many
+-- steps there were before, and u how many there are.
+pub record IsSpliced (w : ℕ) (K : List ℕ → Option UleError) (xs ys : List (List ℕ)) (i gone : ℕ)
+    (o : Option (List ℕ)) (old : List ℕ) (old_spare : ℕ) (bytes : List ℕ) (spare t u : ℕ) : Type 0
+  where
+    pub is : bytes ≡ enc w ys
+    pub list : elements w bytes ≡ ys
+    pub sound : list_fault w K bytes ≡ None
+    pub kept_spare : old_spare ≤ spare + (length bytes - length old)
+    pub growth : length bytes ≤ length old + most_growth w o
+    pub steps : u ≤ t + most_steps w (length xs) (length old) i gone (option_map (λ x. length x) o)
+    pub in_place : (e : List ℕ) → o ≡ Some e → gone ≡ 1 →
+        length e ≡ length (slice_index_or xs i []) → u ≤ t + length e

@@ -1,19 +1,22 @@
-// What the size rule means: worked examples, and laws. Each call does nothing, and its contract is
-// what it is for.
-ghost use Rattle.std.specs.Prelude.{◌≡◌, ◌+◌, ◌∷◌, [], IfOk, OnOk};
+// What the size rule and the count of steps mean: worked examples, and laws. A call but the last
+// two does nothing, and its contract is what it is for.
+ghost use Rattle.std.specs.Prelude.{◌≡◌, ◌+◌, ◌≤◌, ◌∷◌, [], IfOk, OnOk};
 ghost use Rattle.zv_owned.specs.Examples.{EmptyRefusesMost, EmptyTakesBelowMost, FullTakesNone};
 ghost use Rattle.zv_owned.specs.Examples.{FullTakesSameSize, LongerSecondIsRefused};
 ghost use Rattle.zv_owned.specs.Examples.{NotTakenIsTooLarge, OnlyGivesWay, OnlyStays};
 ghost use Rattle.zv_owned.specs.Examples.{SecondIsTaken, ShortRefusesMost, ShortTakesBelowMost};
 ghost use Rattle.zv_owned.specs.Examples.{TakenIsOk, TakenMayWantMemory, ThirdIsRefused};
-ghost use Rattle.zv_owned.specs.Examples.{ThreeAreTaken};
+ghost use Rattle.zv_owned.specs.Examples.{FirstTakesTen, FrontTakesThirtyEight, OnlyGoesInNone};
+ghost use Rattle.zv_owned.specs.Examples.{SecondGoesInTwentyTwo, ThreeAreTaken};
 ghost use Rattle.zv_owned.specs.Laws.{AnyOrder, InsertKeeps, RemoveKeeps, ReplaceKeeps};
 ghost use Rattle.zv_owned.specs.Laws.{ShorterIsTaken};
 
+use crate::error::VecError;
+use crate::owned::{Change, VarZeroVecOwned};
 use crate::shelf::Shelf;
 use std::alloc::Global;
 use std::sync::ledger::Ledger;
-use zv_ule::{NoMemory, Steps};
+use zv_ule::{Index16, NoMemory, Steps, StrULE};
 
 /// Elements at the edge of what a list takes, and what is answered where one is taken or not.
 pub fn sizes_by_hand()
@@ -34,6 +37,14 @@ pub fn sizes_by_hand()
     ensures not_taken_too_large { NotTakenIsTooLarge }
 {}
 
+/// The most steps of four changes.
+pub fn steps_by_hand()
+    ensures first_takes_ten { FirstTakesTen }
+    ensures front_takes_thirty_eight { FrontTakesThirtyEight }
+    ensures second_goes_in_twenty_two { SecondGoesInTwentyTwo }
+    ensures only_goes_in_none { OnlyGoesInNone }
+{}
+
 /// A list that can be written still can after each change that the size rule takes, and after any
 /// removal. A shorter element is always taken in place of a longer one. Whether elements are taken
 /// one after another does not depend on their order.
@@ -44,6 +55,18 @@ pub fn size_rule()
     ensures shorter { ShorterIsTaken }
     ensures any_order { AnyOrder }
 {}
+
+/// In the list of the texts "a" and "b", "c" takes the place of "b" in one step.
+pub fn splice_by_hand<L: Ledger>(
+    list: &mut VarZeroVecOwned<StrULE, Index16>,
+    steps: &mut Steps<L>,
+) -> Result<(), VecError>
+    requires { list.old.list ≡ (97 ∷ []) ∷ (98 ∷ []) ∷ [] }
+    ensures bytes { OnOk result (list.new.bytes ≡ 2 ∷ 0 ∷ 1 ∷ 0 ∷ 97 ∷ 99 ∷ []) }
+    ensures steps { OnOk result (steps.new ≤ steps.old + 1) }
+{
+    list.splice_counted(1, Change::Replace(&"c"), steps)
+}
 
 /// A buffer that takes in the bytes 1, 2 and 3 and grows by two. The last two move to the end, 7
 /// and 8 are written in their place, and the last byte is cut: nine steps.

@@ -2,25 +2,28 @@
 ghost use Rattle.std.specs.Prelude.{◌≡◌, ℕ, ◌==◌, ◌∷◌, ◌++◌, ◌&&◌, ◌+◌, ◌^◌, ◌<◌, ◌≤◌, ◌↔◌};
 ghost use Rattle.std.specs.Prelude.{[], length, set, slice_index_or, Option, None};
 ghost use Rattle.std.specs.Prelude.{IsTrue, IfOk, IsOk, OnOk, OnErr, IfSome, IsNone, List, Some};
-ghost use Rattle.std.specs.Prelude.{◌-◌, ◌*◌, drop, take, true};
-ghost use Rattle.std.specs.List.{concat, insert, remove, slice_get, splice};
-ghost use Rattle.std.specs.Option.{ForSome, option_map};
+ghost use Rattle.std.specs.Prelude.{◌-◌, ◌*◌, ◌||◌, false, is_some, map, true};
+ghost use Rattle.std.specs.List.{insert, remove, slice_get, splice};
+ghost use Rattle.std.specs.Option.{option_map};
 ghost use Rattle.zv_ule.specs.Search.{Found, FoundIn, IsOutside, compared};
 ghost use Rattle.zv_ule.specs.Views.{element_of};
-ghost use Rattle.zv_var.specs.Format.{codable, enc, elements, list_fault};
+ghost use Rattle.zv_var.specs.Format.{enc, elements, list_fault};
 ghost use Rattle.zv_var.specs.Iters.{left_of};
+ghost use Rattle.zv_var.specs.Serialize.{serialized_len};
 ghost use Rattle.zv_var.specs.Views.{bytes_of, list_of};
 ghost use Rattle.zv_owned.specs.Changes.{HasPlace, IsBelow, OnMemory, change_steps, changed};
 ghost use Rattle.zv_owned.specs.Changes.{fits_change, takes_change};
 ghost use Rattle.zv_owned.specs.Owned.{TooLargeUnless};
-ghost use Rattle.zv_owned.specs.Size.{max_of, takes_insert, takes_replace};
-ghost use Rattle.zv_owned.specs.Splices.{most_steps, new_bytes, new_elements};
+ghost use Rattle.zv_owned.specs.Size.{takes_insert, takes_replace, takes_splice};
+ghost use Rattle.zv_owned.specs.Splices.{IsSpliced, most_growth, most_steps, new_bytes};
+ghost use Rattle.zv_owned.specs.Splices.{new_elements};
 
 use crate::encoded::Encoded;
 use crate::error::VecError;
 use crate::shelf::Shelf;
 use crate::size::{takes_insert, takes_replace};
 use crate::splice::splice;
+use crate::vector::VarZeroVec;
 use std::alloc::Global;
 use std::marker::{Brand, Model, PhantomData};
 use std::ops::Range;
@@ -30,6 +33,7 @@ use zv_ule::{
     ZvOrdArg,
 };
 use zv_var::iter::VarZeroSliceIter;
+use zv_var::serialize::get_serializable_bytes_non_empty;
 use zv_var::slice::VarZeroSlice;
 
 /// A list of elements of any lengths that owns its bytes, which are in the form that
@@ -39,8 +43,7 @@ use zv_var::slice::VarZeroSlice;
 /// that was given in other bytes of the same list is written as any other.
 ///
 /// A change is made in the memory that the bytes lie in, and asks for more only where the bytes
-/// grow by more than the spare. It writes and moves what stands after the place, and the starts
-/// there.
+/// grow by more than the spare. It moves what stands after the place, and writes the starts there.
 ///
 /// # The size rule
 /// An element is below `F::MAX` bytes. One that joins a list that is not empty must leave the whole
@@ -70,6 +73,8 @@ impl<T: ZvKind, F: VarZeroVecFormat> Model for VarZeroVecOwned<T, F> {
 }
 
 impl<T: ZvKind, F: VarZeroVecFormat> VarZeroVecOwned<T, F> {
+    ghost use Rattle.zv_owned.specs.Vectors.{vector_bytes, vector_list, vector_owned};
+
     /// The list of no elements, which is no bytes. It takes no memory.
     #[inline]
     pub fn new(alloc: Global) -> Self
@@ -117,6 +122,16 @@ impl<T: ZvKind, F: VarZeroVecFormat> VarZeroVecOwned<T, F> {
         ensures list { list_of result ≡ self.now.list }
     {
         VarZeroSlice::of_valid(self.shelf.bytes())
+    }
+
+    /// The list, borrowed.
+    #[inline]
+    pub fn as_varzerovec(&self) -> VarZeroVec<'_, T, F>
+        ensures list { vector_list result ≡ self.now.list }
+        ensures bytes { vector_bytes result ≡ self.now.bytes }
+        ensures owned { vector_owned result ≡ false }
+    {
+        VarZeroVec::new_borrowed(self.as_slice())
     }
 
     /// The list's bytes.
@@ -179,49 +194,41 @@ impl<T: ZvKind, F: VarZeroVecFormat> VarZeroVecOwned<T, F> {
         takes_replace(self.as_slice(), index, len)
     }
 
-    /// The elements from `start` up to `end`, one at most, give way to what is written for a value,
-    /// or to nothing.
+    /// The elements from `start` on, `gone` of them, which is one at most, give way to what is
+    /// written for a value, or to nothing.
     fn splice<Q: ZvArg<T>, L: Ledger>(
         &mut self,
         start: usize,
-        end: usize,
+        gone: usize,
         value: Option<&Q>,
         steps: &mut Steps<L>,
     ) -> Result<(), NoMemory>
-        requires order { start ≤ end }
-        requires one { end ≤ start + 1 }
-        requires inside { end ≤ length self.old.list }
-        requires change { start ≡ end → value ≡ None → ⊥ }
-        requires short { ForSome value (λ v. length (Q.bytes v.now) < max_of F.W) }
-        requires codable { codable F.W
-            (splice self.old.list start end (new_elements Q.bytes value)) ≡ true }
+        requires one { gone ≤ 1 }
+        requires inside { start + gone ≤ length self.old.list }
+        requires change { gone ≡ 0 → value ≡ None → ⊥ }
+        requires taken { takes_splice F.W self.old.list start gone
+            (new_bytes Q.bytes value) ≡ true }
+        ensures done { OnOk result (IsSpliced F.W T.fault self.old.list
+            (splice self.old.list start (start + gone) (new_elements Q.bytes value.entry))
+            start gone (new_bytes Q.bytes value.entry) self.old.bytes self.old.spare
+            self.new.bytes self.new.spare steps.old steps.new) }
         ensures list { OnOk result (self.new.list ≡
-            splice self.old.list start end (new_elements Q.bytes value.entry)) }
-        ensures bytes { OnOk result (self.new.bytes ≡ enc F.W
-            (splice self.old.list start end (new_elements Q.bytes value.entry))) }
+            splice self.old.list start (start + gone) (new_elements Q.bytes value.entry)) }
         ensures err { OnErr result (self.new ≡ self.old) }
         ensures within { OnErr result (length self.old.bytes + self.old.spare < length (enc F.W
-            (splice self.old.list start end (new_elements Q.bytes value.entry)))) }
-        ensures spare { OnOk result (self.old.spare ≤ self.new.spare + (length (enc F.W
-            (splice self.old.list start end (new_elements Q.bytes value.entry)))
-            - length self.old.bytes)) }
-        ensures steps { OnOk result (steps.new ≤ steps.old + most_steps F.W
-            (length self.old.list) (length self.old.bytes) start end
-            (option_map (λ e. length e) (new_bytes Q.bytes value.entry))) }
-        ensures in_place { (e : List ℕ) → new_bytes Q.bytes value.entry ≡ Some e →
-            start < end →
-            length e ≡ length (concat (take (end - start) (drop start self.old.list))) →
-            OnOk result (steps.new ≤ steps.old + length e) }
-        ensures free { value.entry ≡ None → IsOk result }
+            (splice self.old.list start (start + gone)
+            (new_elements Q.bytes value.entry)))) }
+        ensures room { most_growth F.W (new_bytes Q.bytes value.entry) ≤ self.old.spare →
+            IsOk result }
     {
-        splice::<T, F, Q, L>(&mut self.shelf, start, end, value, steps)
+        splice::<T, F, Q, L>(&mut self.shelf, start, gone, value, steps)
     }
 
     /// Makes a change at a place, and counts each byte that is written, moved or added as a step.
     ///
     /// # Errors
     /// As [`insert`](Self::insert) and [`replace`](Self::replace). A removal is never refused.
-    pub fn splice_arg_counted<Q: ZvArg<T>, L: Ledger>(
+    fn splice_arg_counted<Q: ZvArg<T>, L: Ledger>(
         &mut self,
         index: usize,
         change: Change<'_, Q>,
@@ -271,17 +278,18 @@ impl<T: ZvKind, F: VarZeroVecFormat> VarZeroVecOwned<T, F> {
         ensures spare { OnOk result (self.old.spare ≤
             self.new.spare + (length self.new.bytes - length self.old.bytes)) }
         ensures steps { OnOk result (steps.new ≤ steps.old + most_steps F.W
-            (length self.old.list) (length self.old.bytes) index index
+            (length self.old.list) (length self.old.bytes) index 0
             (Some (length (Q.bytes value.now)))) }
     {
         if !takes_insert(self.as_slice(), value.arg_len()) {
             return Err(VecError::TooLarge);
         }
-        self.splice(index, index, Some(value), steps)?;
+        self.splice(index, 0, Some(value), steps)?;
         Ok(())
     }
 
     /// A replacement.
+    #[tactic(auto, using(crate::proofs::SizeRule::splice_set))]
     fn replace_counted<Q: ZvArg<T>, L: Ledger>(
         &mut self,
         index: usize,
@@ -301,7 +309,7 @@ impl<T: ZvKind, F: VarZeroVecFormat> VarZeroVecOwned<T, F> {
         ensures spare { OnOk result (self.old.spare ≤
             self.new.spare + (length self.new.bytes - length self.old.bytes)) }
         ensures steps { OnOk result (steps.new ≤ steps.old + most_steps F.W
-            (length self.old.list) (length self.old.bytes) index (index + 1)
+            (length self.old.list) (length self.old.bytes) index 1
             (Some (length (Q.bytes value.now)))) }
         ensures in_place { length (Q.bytes value.now) ≡
             length (slice_index_or self.old.list index []) →
@@ -310,7 +318,7 @@ impl<T: ZvKind, F: VarZeroVecFormat> VarZeroVecOwned<T, F> {
         if !takes_replace(self.as_slice(), index, value.arg_len()) {
             return Err(VecError::TooLarge);
         }
-        self.splice(index, index + 1, Some(value), steps)?;
+        self.splice(index, 1, Some(value), steps)?;
         Ok(())
     }
 
@@ -322,10 +330,9 @@ impl<T: ZvKind, F: VarZeroVecFormat> VarZeroVecOwned<T, F> {
         ensures spare { self.old.spare ≤
             self.new.spare + (length self.new.bytes - length self.old.bytes) }
         ensures steps { steps.new ≤ steps.old + most_steps F.W
-            (length self.old.list) (length self.old.bytes) index (index + 1) None }
+            (length self.old.list) (length self.old.bytes) index 1 None }
     {
-        self.as_slice();
-        let _ = self.splice::<VarRef<'_, T>, L>(index, index + 1, None, steps);
+        let _ = self.splice::<VarRef<'_, T>, L>(index, 1, None, steps);
     }
 
     /// Makes a change, with a counter that nobody reads.
@@ -358,7 +365,7 @@ impl<T: ZvKind, F: VarZeroVecFormat> VarZeroVecOwned<T, F> {
 
     /// Makes a change, as [`splice_arg_counted`](Self::splice_arg_counted), where nobody counts.
     #[inline]
-    pub fn splice_arg<Q: ZvArg<T>>(
+    pub(crate) fn splice_arg<Q: ZvArg<T>>(
         &mut self,
         index: usize,
         change: Change<'_, Q>,
@@ -422,20 +429,63 @@ impl<T: ZvKind, F: VarZeroVecFormat> VarZeroVecOwned<T, F> {
         self.splice_arg(index, Change::Replace(value))
     }
 
-    /// A removal, with a counter that nobody reads.
+    /// A splice in the room that there is, with a counter that nobody reads.
     #[inline]
-    fn remove_from<L: Ledger>(&mut self, index: usize, blank: Blank)
-        requires place { index < length self.old.list }
+    fn splice_from<Q: ZvArg<T>, L: Ledger>(
+        &mut self,
+        start: usize,
+        gone: usize,
+        value: Option<&Q>,
+        blank: Blank,
+    )
+        requires one { gone ≤ 1 }
+        requires inside { start + gone ≤ length self.old.list }
+        requires change { gone ≡ 0 → value ≡ None → ⊥ }
+        requires taken { takes_splice F.W self.old.list start gone
+            (new_bytes Q.bytes value) ≡ true }
+        requires room { most_growth F.W (new_bytes Q.bytes value) ≤ self.old.spare }
         requires name { blank.name ≡ L.name }
         requires parts { blank.parts ≡ L.parts }
         requires some { 0 < blank.parts }
-        ensures list { self.new.list ≡ remove self.old.list index }
+        ensures list { self.new.list ≡
+            splice self.old.list start (start + gone) (new_elements Q.bytes value.entry) }
         ensures bytes { self.new.bytes ≡ enc F.W self.new.list }
         ensures spare { self.old.spare ≤
-            self.new.spare + (length self.new.bytes - length self.old.bytes) }
+            self.new.spare + most_growth F.W (new_bytes Q.bytes value.entry) }
     {
         let mut steps = Steps::<L>::start(blank);
-        self.remove_counted(index, &mut steps);
+        let _ = self.splice(start, gone, value, &mut steps);
+    }
+
+    /// Puts what is written for a value before the element at a place, or at the end, in the room
+    /// that there is. It takes no memory, does not ask the size rule, and is never refused.
+    #[inline]
+    pub fn insert_reserved<Q: ZvArg<T>>(&mut self, index: usize, value: &Q)
+        requires place { index ≤ length self.old.list }
+        requires taken { takes_insert F.W self.old.list (length (Q.bytes value.now)) ≡ true }
+        requires room { length (Q.bytes value.now) + F.W ≤ self.old.spare }
+        ensures list { self.new.list ≡ insert self.old.list index (Q.bytes value.now) }
+        ensures bytes { self.new.bytes ≡ enc F.W self.new.list }
+        ensures spare { self.old.spare ≤ self.new.spare + (length (Q.bytes value.now) + F.W) }
+    {
+        self.splice_from::<Q, Brand>(index, 0, Some(value), Blank::new(1));
+    }
+
+    /// Puts what is written for a value in place of the element at a place, as
+    /// [`insert_reserved`](Self::insert_reserved).
+    #[inline]
+    #[tactic(auto, using(crate::proofs::SizeRule::splice_set))]
+    pub fn replace_reserved<Q: ZvArg<T>>(&mut self, index: usize, value: &Q)
+        requires place { index < length self.old.list }
+        requires taken { takes_replace F.W self.old.list
+            (length (slice_index_or self.old.list index []))
+            (length (Q.bytes value.now)) ≡ true }
+        requires room { length (Q.bytes value.now) + F.W ≤ self.old.spare }
+        ensures list { self.new.list ≡ set self.old.list index (Q.bytes value.now) }
+        ensures bytes { self.new.bytes ≡ enc F.W self.new.list }
+        ensures spare { self.old.spare ≤ self.new.spare + (length (Q.bytes value.now) + F.W) }
+    {
+        self.splice_from::<Q, Brand>(index, 1, Some(value), Blank::new(1));
     }
 
     /// Takes out the element at a place. It takes no memory, and is never refused.
@@ -444,10 +494,9 @@ impl<T: ZvKind, F: VarZeroVecFormat> VarZeroVecOwned<T, F> {
         requires place { index < length self.old.list }
         ensures list { self.new.list ≡ remove self.old.list index }
         ensures bytes { self.new.bytes ≡ enc F.W self.new.list }
-        ensures spare { self.old.spare ≤
-            self.new.spare + (length self.new.bytes - length self.old.bytes) }
+        ensures spare { self.old.spare ≤ self.new.spare }
     {
-        self.remove_from::<Brand>(index, Blank::new(1));
+        self.splice_from::<VarRef<'_, T>, Brand>(index, 1, None, Blank::new(1));
     }
 
     /// How many bytes the list can grow by without memory.
@@ -466,6 +515,7 @@ impl<T: ZvKind, F: VarZeroVecFormat> VarZeroVecOwned<T, F> {
         ensures ok { OnOk result (n ≤ self.new.spare) }
         ensures err { OnErr result (self.new ≡ self.old) }
         ensures kept { self.old.spare ≤ self.new.spare }
+        ensures within { n ≤ self.old.spare → IsOk result }
     {
         self.shelf.reserve(n)
     }
@@ -478,10 +528,10 @@ impl<T: ZvKind, F: VarZeroVecFormat> VarZeroVecOwned<T, F> {
         ensures ok { OnOk result (additional * (F.W + 4) ≤ self.new.spare) }
         ensures err { OnErr result (self.new ≡ self.old) }
         ensures kept { self.old.spare ≤ self.new.spare }
+        ensures within { additional * (F.W + 4) ≤ self.old.spare → IsOk result }
     {
-        let Some(n) = additional.checked_mul(F::W + 4) else {
-            return Err(NoMemory);
-        };
+        let _spare = self.spare();
+        let n = room_for::<F>(additional)?;
         self.reserve_bytes(n)
     }
 
@@ -528,6 +578,34 @@ impl<T: ZvKind, F: VarZeroVecFormat> VarZeroVecOwned<T, F> {
 }
 
 impl<T: VarULE, F: VarZeroVecFormat> VarZeroVecOwned<T, F> {
+    /// The list of values' spellings.
+    ///
+    /// # Errors
+    /// [`VecError::TooLarge`] exactly where a value has no spelling, or the starts and the
+    /// spellings together reach `F::MAX`, or all the bytes reach 2^32; and otherwise
+    /// [`VecError::Memory`].
+    pub fn try_from_elements<A: EncodeAsVarULE<T>>(
+        alloc: Global,
+        elements: &[A],
+    ) -> Result<Self, VecError>
+        requires { IsTrue T.usable }
+        ensures list { IfOk result (λ v. v.list ≡ map A.spelling elements.now) }
+        ensures bytes { IfOk result (λ v. v.bytes ≡ enc F.W (map A.spelling elements.now)) }
+        ensures refused { TooLargeUnless (length elements.now == 0 ||
+            is_some (serialized_len A.fits A.spelling F.W elements.now)) result }
+    {
+        if elements.is_empty() {
+            return Ok(VarZeroVecOwned::new(alloc));
+        }
+        match get_serializable_bytes_non_empty::<T, A, F>(alloc, elements)? {
+            Some(bytes) => Ok(VarZeroVecOwned {
+                shelf: Shelf::from_bytes(bytes),
+                of: PhantomData,
+            }),
+            None => Err(VecError::TooLarge),
+        }
+    }
+
     /// Makes a change by a value's spelling at a place, and counts each byte that is written, moved
     /// or added as a step.
     ///
@@ -667,6 +745,15 @@ impl<T: ZvOrd, F: VarZeroVecFormat> VarZeroVecOwned<T, F> {
     {
         self.as_slice().binary_search(needle)
     }
+}
+
+/// How many bytes so many elements of four bytes each take, with their fields.
+#[inline]
+pub(crate) fn room_for<F: VarZeroVecFormat>(count: usize) -> Result<usize, NoMemory>
+    ensures ok { IfOk result (λ n. n ≡ count * (F.W + 4)) }
+    ensures err { OnErr result (2 ^ 64 ≤ count * (F.W + 4)) }
+{
+    count.checked_mul(F::W + 4).ok_or(NoMemory)
 }
 
 /// A change of a list at a place.

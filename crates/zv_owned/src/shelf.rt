@@ -45,6 +45,18 @@ impl Shelf {
         }
     }
 
+    /// These bytes, with no room for more.
+    #[inline]
+    pub(crate) fn from_bytes(bytes: Vec<u8>) -> Self
+        ensures bytes { result.bytes ≡ bytes.items }
+        ensures spare { result.spare ≡ 0 }
+    {
+        Shelf {
+            buffer: bytes,
+            room: 0,
+        }
+    }
+
     /// A copy of bytes, with room for `more`.
     pub(crate) fn with_copy(alloc: Global, bytes: &[u8], more: usize) -> Result<Self, NoMemory>
         ensures bytes { IfOk result (λ s. s.bytes ≡ bytes.now) }

@@ -1,12 +1,42 @@
 // The size rule: which changes a list takes.
-ghost use Rattle.std.specs.Prelude.{◌≡◌, ◌<◌, [], length, slice_index_or};
+ghost use Rattle.std.specs.Prelude.{◌≡◌, ◌^◌, ◌<◌, [], length, slice_index_or};
 ghost use Rattle.zv_var.specs.Views.{list_of};
 ghost use Rattle.zv_owned.specs.Changes.{HasPlace, IsBelow, takes_change};
-ghost use Rattle.zv_owned.specs.Size.{takes_insert, takes_replace};
+ghost use Rattle.zv_owned.specs.Size.{max_of, size, takes_insert, takes_replace};
 
 use crate::owned::Change;
 use zv_ule::{VarZeroVecFormat, ZvArg, ZvKind};
 use zv_var::slice::VarZeroSlice;
+
+/// The most that a field holds.
+#[inline]
+fn most<F: VarZeroVecFormat>() -> usize
+    ensures is { result ≡ max_of F.W }
+    ensures small { result < 2 ^ 32 }
+{
+    F::MAX
+}
+
+/// How many bytes a list that has an element is written as: its own.
+#[inline]
+fn size_of<T: ZvKind, F: VarZeroVecFormat>(list: VarZeroSlice<'_, T, F>) -> usize
+    requires { 0 < length (list_of list) }
+    ensures is { result ≡ size F.W (list_of list.entry) }
+    ensures small { result < 2 ^ 63 }
+{
+    list.as_bytes().len()
+}
+
+/// How many bytes the element at a place has.
+#[inline]
+#[tactic(auto, using(crate::proofs::SizeRule::length_seen, crate::proofs::Offsets::offset_rises))]
+fn len_at<T: ZvKind, F: VarZeroVecFormat>(list: VarZeroSlice<'_, T, F>, index: usize) -> usize
+    requires { index < length (list_of list) }
+    ensures { result ≡ length (slice_index_or (list_of list.entry) index []) }
+{
+    let _count = list.len();
+    list.offset(index + 1) - list.offset(index)
+}
 
 /// Whether the list takes an element of `len` bytes beside its own.
 #[inline]
@@ -16,7 +46,8 @@ pub(crate) fn takes_insert<T: ZvKind, F: VarZeroVecFormat>(
 ) -> bool
     ensures { result ≡ takes_insert F.W (list_of list.entry) len }
 {
-    len < F::MAX && (list.is_empty() || list.as_bytes().len() + len + F::W <= F::MAX)
+    let most = most::<F>();
+    len < most && (list.is_empty() || size_of(list) + len + F::W <= most)
 }
 
 /// Whether the list takes an element of `len` bytes in place of one of its own.
@@ -30,8 +61,9 @@ pub(crate) fn takes_replace<T: ZvKind, F: VarZeroVecFormat>(
     ensures { result ≡ takes_replace F.W (list_of list.entry)
         (length (slice_index_or (list_of list.entry) index [])) len }
 {
-    let old = list.offset(index + 1) - list.offset(index);
-    len < F::MAX && (len <= old || list.as_bytes().len() + len <= F::MAX + old)
+    let most = most::<F>();
+    let old = len_at(list, index);
+    len < most && (len <= old || size_of(list) + len <= most + old)
 }
 
 /// Whether the list takes a change at a place.

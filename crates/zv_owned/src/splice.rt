@@ -1,66 +1,57 @@
 // One change of a list, in the buffer that it lies in.
-ghost use Rattle.std.specs.Prelude.{◌≡◌, ℕ, ◌+◌, ◌-◌, ◌*◌, ◌^◌, ◌<◌, ◌≤◌, ◌++◌, None, List, []};
-ghost use Rattle.std.specs.Prelude.{◌∷◌, length, true};
-ghost use Rattle.std.specs.Prelude.{IfSome, IfNone, IsOk, IsTrue, OnErr, OnOk, Some, drop, take};
-ghost use Rattle.std.specs.List.{concat, splice};
-ghost use Rattle.std.specs.Option.{ForSome, option_map, option_to_list};
-ghost use Rattle.zv_var.specs.Format.{codable, elements, enc, list_fault};
+ghost use Rattle.std.specs.Prelude.{◌≡◌, ℕ, ◌+◌, ◌-◌, ◌*◌, ◌^◌, ◌<◌, ◌≤◌, ◌++◌, List, []};
+ghost use Rattle.std.specs.Prelude.{Option, None};
+ghost use Rattle.std.specs.Prelude.{◌∷◌, length, true, IfSome, IfNone, IsOk, IsTrue, OnErr, OnOk};
+ghost use Rattle.std.specs.List.{splice};
+ghost use Rattle.std.specs.Option.{ForSome, option_map};
+ghost use Rattle.zv_var.specs.Format.{elements, enc, list_fault};
 ghost use Rattle.zv_var.specs.Laws.{AreValid};
 ghost use Rattle.zv_var.specs.Views.{list_of};
-ghost use Rattle.zv_owned.specs.Size.{max_of};
-ghost use Rattle.zv_owned.specs.Splices.{IsEdit, begin_steps, most_steps, new_bytes};
+ghost use Rattle.zv_owned.specs.Size.{max_of, takes_splice};
+ghost use Rattle.zv_owned.specs.Splices.{IsEdit, IsSpliced, begin_steps, most_growth, new_bytes};
 ghost use Rattle.zv_owned.specs.Splices.{new_elements};
 
-use crate::edits::{insertion, removal, replacement};
 use crate::shelf::Shelf;
 use crate::writes::{Edit, edit_bytes, write_field, write_value};
 use std::sync::ledger::Ledger;
 use zv_ule::{NoMemory, Steps, VarZeroVecFormat, ZvArg, ZvKind};
 use zv_var::slice::VarZeroSlice;
 
-/// The elements from `start` up to `end`, one at most, give way to what is written for a value, or
-/// to nothing. The bytes are then the encoding of the changed list, whatever they were before.
+/// The elements from `start` on, `gone` of them, which is one at most, give way to what is written
+/// for a value, or to nothing. The bytes are then the encoding of the changed list, whatever they
+/// were before.
 pub(crate) fn splice<T: ZvKind, F: VarZeroVecFormat, Q: ZvArg<T>, L: Ledger>(
     shelf: &mut Shelf,
     start: usize,
-    end: usize,
+    gone: usize,
     value: Option<&Q>,
     steps: &mut Steps<L>,
 ) -> Result<(), NoMemory>
     requires usable { IsTrue T.usable }
     requires spells { list_fault F.W T.fault shelf.old.bytes ≡ None }
-    requires order { start ≤ end }
-    requires one { end ≤ start + 1 }
-    requires inside { end ≤ length (elements F.W shelf.old.bytes) }
-    requires change { start ≡ end → value ≡ None → ⊥ }
-    requires short { ForSome value (λ v. length (Q.bytes v.now) < max_of F.W) }
-    requires codable { codable F.W (splice (elements F.W shelf.old.bytes) start end
-        (new_elements Q.bytes value)) ≡ true }
-    ensures bytes { OnOk result (shelf.new.bytes ≡ enc F.W (splice
-        (elements F.W shelf.old.bytes) start end (new_elements Q.bytes value.entry))) }
-    ensures list { OnOk result (elements F.W shelf.new.bytes ≡ splice
-        (elements F.W shelf.old.bytes) start end (new_elements Q.bytes value.entry)) }
-    ensures sound { OnOk result (list_fault F.W T.fault shelf.new.bytes ≡ None) }
+    requires one { gone ≤ 1 }
+    requires inside { start + gone ≤ length (elements F.W shelf.old.bytes) }
+    requires change { gone ≡ 0 → value ≡ None → ⊥ }
+    requires taken { takes_splice F.W (elements F.W shelf.old.bytes) start gone
+        (new_bytes Q.bytes value) ≡ true }
+    ensures done { OnOk result (IsSpliced F.W T.fault (elements F.W shelf.old.bytes)
+        (splice (elements F.W shelf.old.bytes) start (start + gone)
+        (new_elements Q.bytes value.entry))
+        start gone (new_bytes Q.bytes value.entry) shelf.old.bytes shelf.old.spare
+        shelf.new.bytes shelf.new.spare steps.old steps.new) }
     ensures err { OnErr result (shelf.new ≡ shelf.old) }
     ensures within { OnErr result (length shelf.old.bytes + shelf.old.spare < length (enc F.W
-        (splice (elements F.W shelf.old.bytes) start end (new_elements Q.bytes value.entry)))) }
-    ensures spare { OnOk result (shelf.old.spare ≤ shelf.new.spare + (length (enc F.W
-        (splice (elements F.W shelf.old.bytes) start end (new_elements Q.bytes value.entry)))
-        - length shelf.old.bytes)) }
-    ensures steps { OnOk result (steps.new ≤ steps.old + most_steps F.W
-        (length (elements F.W shelf.old.bytes)) (length shelf.old.bytes) start end
-        (option_map (λ e. length e) (new_bytes Q.bytes value.entry))) }
-    ensures in_place { (e : List ℕ) → new_bytes Q.bytes value.entry ≡ Some e → start < end →
-        length e ≡ length (concat (take (end - start) (drop start
-        (elements F.W shelf.old.bytes)))) →
-        OnOk result (steps.new ≤ steps.old + length e) }
-    ensures free { value.entry ≡ None → IsOk result }
+        (splice (elements F.W shelf.old.bytes) start (start + gone)
+        (new_elements Q.bytes value.entry)))) }
+    ensures room { most_growth F.W (new_bytes Q.bytes value.entry) ≤ shelf.old.spare →
+        IsOk result }
 {
     let list = VarZeroSlice::<T, F>::of_valid(shelf.bytes());
-    match edit_for(list, start, end, len_for::<T, Q>(value)) {
-        Some(edit) => edit_bytes::<T, F, Q, L>(shelf, &edit, value, steps),
-        None => begin::<T, F, Q, L>(shelf, value, steps),
+    match edit_for(list, start, gone, len_for::<T, Q>(value)) {
+        Some(edit) => edit_bytes::<T, F, Q, L>(shelf, edit, value, steps)?,
+        None => begin::<T, F, Q, L>(shelf, value, steps)?,
     }
+    Ok(())
 }
 
 /// How many bytes are written for a value, if there is one.
@@ -89,11 +80,10 @@ fn begin<T: ZvKind, F: VarZeroVecFormat, Q: ZvArg<T>, L: Ledger>(
     ensures err { OnErr result (shelf.new ≡ shelf.old) }
     ensures within { OnErr result (length shelf.old.bytes + shelf.old.spare <
         length (enc F.W (new_elements Q.bytes value.entry))) }
-    ensures spare { OnOk result (shelf.old.spare ≤ shelf.new.spare +
-        (length (enc F.W (new_elements Q.bytes value.entry)) - length shelf.old.bytes)) }
+    ensures spare { OnOk result (shelf.old.spare ≤
+        shelf.new.spare + (length shelf.new.bytes - length shelf.old.bytes)) }
     ensures steps { OnOk result (steps.new ≤ steps.old + begin_steps F.W
         (option_map (λ e. length e) (new_bytes Q.bytes value.entry))) }
-    ensures free { value.entry ≡ None → IsOk result }
 {
     match value {
         Some(value) => begin_with::<T, F, Q, L>(shelf, value, steps),
@@ -105,6 +95,7 @@ fn begin<T: ZvKind, F: VarZeroVecFormat, Q: ZvArg<T>, L: Ledger>(
 }
 
 /// The bytes become the encoding of the list of what is written for a value.
+#[tactic(auto, using(crate::proofs::Spliced::one_encoded))]
 fn begin_with<T: ZvKind, F: VarZeroVecFormat, Q: ZvArg<T>, L: Ledger>(
     shelf: &mut Shelf,
     value: &Q,
@@ -115,9 +106,9 @@ fn begin_with<T: ZvKind, F: VarZeroVecFormat, Q: ZvArg<T>, L: Ledger>(
     ensures bytes { OnOk result (shelf.new.bytes ≡ enc F.W (Q.bytes value.now ∷ [])) }
     ensures err { OnErr result (shelf.new ≡ shelf.old) }
     ensures within { OnErr result (length shelf.old.bytes + shelf.old.spare <
-        F.W + length (Q.bytes value.now)) }
-    ensures spare { OnOk result (shelf.old.spare ≤ shelf.new.spare +
-        (F.W + length (Q.bytes value.now) - length shelf.old.bytes)) }
+        length (enc F.W (Q.bytes value.now ∷ []))) }
+    ensures spare { OnOk result (shelf.old.spare ≤
+        shelf.new.spare + (length shelf.new.bytes - length shelf.old.bytes)) }
     ensures steps { OnOk result (steps.new ≤
         steps.old + F.W + 2 * (F.W + length (Q.bytes value.now))) }
 {
@@ -145,35 +136,67 @@ fn fit_len<L: Ledger>(shelf: &mut Shelf, n: usize, steps: &mut Steps<L>) -> Resu
     Ok(())
 }
 
-/// The change of a list's bytes in which the elements from `start` up to `end`, one at most, give
-/// way to one of `new` bytes, or to none; `None` where the list is empty or becomes so.
+/// The change of a list's bytes in which the elements from `start` on, `gone` of them, give way to
+/// one of `new` bytes, or to none; `None` where the list is empty or becomes so.
+#[tactic(auto, using(crate::proofs::Offsets::offset_rises))]
 fn edit_for<T: ZvKind, F: VarZeroVecFormat>(
     list: VarZeroSlice<'_, T, F>,
     start: usize,
-    end: usize,
+    gone: usize,
     new: Option<usize>,
 ) -> Option<Edit>
-    requires order { start ≤ end }
-    requires one { end ≤ start + 1 }
-    requires inside { end ≤ length (list_of list) }
-    requires change { start ≡ end → new ≡ None → ⊥ }
-    ensures edit { IfSome result (λ e. (front gone back : List (List ℕ)) →
-        list_of list.entry ≡ front ++ (gone ++ back) → length front ≡ start →
-        length gone ≡ end - start → IsEdit F.W front gone back new e) }
-    ensures some { IfSome result (λ e. 0 < length (list_of list.entry)) }
-    ensures left { IfSome result (λ e.
-        0 < length (list_of list.entry) - (end - start) + length (option_to_list new)) }
-    ensures none { IfNone result (length (list_of list.entry) ≡ end - start) }
-    ensures no_new { IfNone result (start < end → new ≡ None) }
+    requires one { gone ≤ 1 }
+    requires inside { start + gone ≤ length (list_of list) }
+    requires change { gone ≡ 0 → new ≡ None → ⊥ }
+    ensures edit { IfSome result (λ e. (front mid back : List (List ℕ)) (o : Option (List ℕ)) →
+        list_of list.entry ≡ front ++ (mid ++ back) → length front ≡ start →
+        length mid ≡ gone → option_map (λ x. length x) o ≡ new → IsEdit front mid back o e) }
+    ensures none { IfNone result (length (list_of list.entry) ≡ gone) }
+    ensures no_new { IfNone result (0 < gone → new ≡ None) }
 {
     let parts = list.components();
     let count = parts.len();
     let before = parts.offset(start);
-    let out = parts.offset(end) - before;
+    let out = parts.offset(start + gone) - before;
+    // The count stands in the field of the first element.
+    let kept = start.max(1);
     match new {
-        Some(len) if start < end => Some(replacement::<F>(count, start, before, out, len)),
-        Some(len) if count > 0 => Some(insertion::<F>(count, start, before, len)),
-        None if count > 1 => Some(removal::<F>(count, start, before, out)),
+        Some(into) if gone > 0 => Some(Edit {
+            kept: start + 1,
+            gone: 0,
+            start: None,
+            later: count - start - 1,
+            before,
+            out,
+            into,
+        }),
+        Some(into) if count > 0 => Some(Edit {
+            kept,
+            gone: 0,
+            start: Some(start_for(start, before, into)),
+            later: count - kept,
+            before,
+            out: 0,
+            into,
+        }),
+        None if count > 1 => Some(Edit {
+            kept,
+            gone: 1,
+            start: None,
+            later: count - kept - 1,
+            before,
+            out,
+            into: 0,
+        }),
         _ => None,
     }
+}
+
+/// The new start after an element came: its own, or where it is the first one, that of the next.
+#[inline]
+fn start_for(index: usize, before: usize, len: usize) -> usize
+    ensures first { index ≡ 0 → result ≡ len }
+    ensures later { 0 < index → result ≡ before }
+{
+    if index == 0 { len } else { before }
 }

@@ -1,8 +1,8 @@
 // A list in a format that is borrowed, or owns its bytes.
-ghost use Rattle.std.specs.Prelude.{◌≡◌, ⊤, ℕ, ◌==◌, ◌&&◌, ◌+◌, ◌^◌, ◌<◌, ◌≤◌, ◌↔◌, []};
+ghost use Rattle.std.specs.Prelude.{◌≡◌, ⊤, ℕ, ◌==◌, ◌&&◌, ◌+◌, ◌*◌, ◌^◌, ◌<◌, ◌≤◌, ◌↔◌, []};
 ghost use Rattle.std.specs.Prelude.{length, set, slice_index_or, Option, None, Some};
 ghost use Rattle.std.specs.Prelude.{IsTrue, IfOk, OnOk, OnErr, IfSome, IsNone, IsOk, true, false};
-ghost use Rattle.std.specs.Prelude.{is_some, not};
+ghost use Rattle.std.specs.Prelude.{◌||◌, is_some, map, not};
 ghost use Rattle.std.specs.List.{insert, remove, slice_get};
 ghost use Rattle.std.specs.Option.{option_map};
 ghost use Rattle.std.specs.Result.{result_err};
@@ -11,19 +11,22 @@ ghost use Rattle.zv_ule.specs.Views.{element_of};
 ghost use Rattle.zv_var.specs.Format.{elements, enc, list_fault};
 ghost use Rattle.zv_var.specs.Iters.{left_of};
 ghost use Rattle.zv_var.specs.Nested.{slice_fault};
+ghost use Rattle.zv_var.specs.Serialize.{serialized_len};
 ghost use Rattle.zv_var.specs.Views.{bytes_of, list_of, parts_of};
 ghost use Rattle.zv_owned.specs.Changes.{HasPlace, IsBelow, OnMemory, changed, takes_change};
 ghost use Rattle.zv_owned.specs.Owned.{Owned, TooLargeUnless};
 ghost use Rattle.zv_owned.specs.Size.{takes_insert, takes_replace};
+ghost use Rattle.zv_owned.specs.Vectors.{bytes_in, list_in, spare_in};
 
 use crate::error::VecError;
-use crate::owned::{Change, VarZeroVecOwned};
+use crate::owned::{Change, VarZeroVecOwned, room_for};
 use crate::size::{growth_of, takes_change, takes_insert, takes_replace};
 use std::alloc::Global;
 use std::marker::Model;
 use std::ops::Range;
 use zv_ule::{
-    Index16, Index32, NoMemory, UleError, VarRef, VarZeroVecFormat, ZvArg, ZvKind, ZvOrd, ZvOrdArg,
+    EncodeAsVarULE, Index16, Index32, NoMemory, UleError, VarRef, VarULE, VarZeroVecFormat, ZvArg,
+    ZvKind, ZvOrd, ZvOrdArg,
 };
 use zv_var::components::VarZeroVecComponents;
 use zv_var::iter::VarZeroSliceIter;
@@ -59,20 +62,49 @@ impl<T: ZvKind, F: VarZeroVecFormat> Slot<T, F> {
         self.owned.as_mut()
     }
 
-    /// Holds a copy of the list, if it holds none.
+    /// The owned list, or a copy of the list where there is none.
     #[inline]
-    fn fill(&mut self, alloc: Global, list: VarZeroSlice<'_, T, F>) -> Result<(), NoMemory>
-        ensures some { OnOk result (is_some self.new ≡ true) }
-        ensures made { IsOk result → self.old ≡ None →
-            IfSome self.new (λ v.
-            (v.list ≡ list_of list.entry) × (v.bytes ≡ bytes_of list.entry)) }
-        ensures kept { is_some self.old ≡ true → (self.new ≡ self.old) × IsOk result }
-        ensures err { OnErr result (self.new ≡ self.old) }
+    fn into_list(
+        self,
+        alloc: Global,
+        list: VarZeroSlice<'_, T, F>,
+    ) -> Result<VarZeroVecOwned<T, F>, NoMemory>
+        ensures list { IfOk result (λ v. v.list ≡ list_in self (list_of list.entry)) }
+        ensures bytes { IfOk result (λ v. v.bytes ≡ bytes_in self (bytes_of list.entry)) }
+        ensures kept { IfOk result (λ v. spare_in self ≤ v.spare) }
+        ensures free { is_some self ≡ true → IsOk result }
     {
-        if self.owned.is_none() {
-            self.owned = Some(VarZeroVecOwned::from_slice(alloc, list)?);
+        match self.owned {
+            Some(owned) => Ok(owned),
+            None => VarZeroVecOwned::from_slice(alloc, list),
         }
-        Ok(())
+    }
+
+    /// Makes room for `n` bytes more in the owned list, which is a copy of the list where there was
+    /// none.
+    fn reserve(
+        &mut self,
+        alloc: Global,
+        list: VarZeroSlice<'_, T, F>,
+        n: usize,
+    ) -> Result<(), NoMemory>
+        ensures list { list_in self.new (list_of list.entry) ≡
+            list_in self.old (list_of list.entry) }
+        ensures bytes { bytes_in self.new (bytes_of list.entry) ≡
+            bytes_in self.old (bytes_of list.entry) }
+        ensures owned { OnOk result (is_some self.new ≡ true) }
+        ensures ok { OnOk result (n ≤ spare_in self.new) }
+        ensures err { OnErr result (self.new ≡ self.old) }
+        ensures kept { spare_in self.old ≤ spare_in self.new }
+        ensures within { is_some self.old ≡ true → n ≤ spare_in self.old → IsOk result }
+    {
+        match self.as_owned() {
+            Some(owned) => owned.reserve_bytes(n),
+            None => {
+                self.owned = Some(VarZeroVecOwned::with_copy(alloc, list, n)?);
+                Ok(())
+            }
+        }
     }
 }
 
@@ -232,7 +264,7 @@ impl<'a, T: ZvKind, F: VarZeroVecFormat> VarZeroVec<'a, T, F> {
         ensures bytes { IfOk result (λ v. v.now.bytes ≡ vector_bytes self.old) }
         ensures kept { IsTrue (vector_owned self.old) → IsOk result }
     {
-        if let Err(e) = self.slot.fill(alloc, self.view) {
+        if let Err(e) = self.slot.reserve(alloc, self.view, 0) {
             return Err(e);
         }
         match self.slot.as_owned() {
@@ -314,8 +346,8 @@ impl<'a, T: ZvKind, F: VarZeroVecFormat> VarZeroVec<'a, T, F> {
     /// Makes a change at a place. The list is owned then.
     ///
     /// # Errors
-    /// As [`VarZeroVecOwned::splice_arg`].
-    pub fn splice_arg<Q: ZvArg<T>>(
+    /// As [`VarZeroVecOwned::insert`] and [`VarZeroVecOwned::replace`].
+    fn splice_arg<Q: ZvArg<T>>(
         &mut self,
         alloc: Global,
         index: usize,
@@ -417,6 +449,154 @@ impl<'a, T: ZvKind, F: VarZeroVecFormat> VarZeroVec<'a, T, F> {
         Ok(())
     }
 
+    /// Puts what is written for a value before the element at a place, or at the end, in the room
+    /// that an owned list has, as [`VarZeroVecOwned::insert_reserved`].
+    #[inline]
+    pub fn insert_reserved<Q: ZvArg<T>>(&mut self, index: usize, value: &Q)
+        requires owned { IsTrue (vector_owned self.old) }
+        requires place { index ≤ length (vector_list self.old) }
+        requires taken { takes_insert F.W (vector_list self.old)
+            (length (Q.bytes value.now)) ≡ true }
+        requires room { length (Q.bytes value.now) + F.W ≤ vector_spare self.old }
+        ensures list { vector_list self.new ≡
+            insert (vector_list self.old) index (Q.bytes value.now) }
+        ensures bytes { vector_bytes self.new ≡ enc F.W (vector_list self.new) }
+        ensures owned { vector_owned self.new ≡ true }
+        ensures spare { vector_spare self.old ≤
+            vector_spare self.new + (length (Q.bytes value.now) + F.W) }
+    {
+        if let Some(owned) = self.slot.as_owned() {
+            owned.insert_reserved(index, value);
+        }
+    }
+
+    /// Puts what is written for a value in place of the element at a place, in the room that an
+    /// owned list has, as [`VarZeroVecOwned::replace_reserved`].
+    #[inline]
+    pub fn replace_reserved<Q: ZvArg<T>>(&mut self, index: usize, value: &Q)
+        requires owned { IsTrue (vector_owned self.old) }
+        requires place { index < length (vector_list self.old) }
+        requires taken { takes_replace F.W (vector_list self.old)
+            (length (slice_index_or (vector_list self.old) index []))
+            (length (Q.bytes value.now)) ≡ true }
+        requires room { length (Q.bytes value.now) + F.W ≤ vector_spare self.old }
+        ensures list { vector_list self.new ≡
+            set (vector_list self.old) index (Q.bytes value.now) }
+        ensures bytes { vector_bytes self.new ≡ enc F.W (vector_list self.new) }
+        ensures owned { vector_owned self.new ≡ true }
+        ensures spare { vector_spare self.old ≤
+            vector_spare self.new + (length (Q.bytes value.now) + F.W) }
+    {
+        if let Some(owned) = self.slot.as_owned() {
+            owned.replace_reserved(index, value);
+        }
+    }
+
+    /// Takes out the element at a place of an owned list. It takes no memory.
+    #[inline]
+    pub fn remove_reserved(&mut self, index: usize)
+        requires owned { IsTrue (vector_owned self.old) }
+        requires place { index < length (vector_list self.old) }
+        ensures list { vector_list self.new ≡ remove (vector_list self.old) index }
+        ensures bytes { vector_bytes self.new ≡ enc F.W (vector_list self.new) }
+        ensures owned { vector_owned self.new ≡ true }
+        ensures spare { vector_spare self.old ≤ vector_spare self.new }
+    {
+        if let Some(owned) = self.slot.as_owned() {
+            owned.remove(index);
+        }
+    }
+
+    /// Makes room for `n` bytes more. A list that is borrowed is copied first, byte for byte, into
+    /// memory that has the room.
+    ///
+    /// # Errors
+    /// [`NoMemory`] at most where the list is borrowed or `n` is above the spare.
+    #[inline]
+    pub fn reserve_bytes(&mut self, alloc: Global, n: usize) -> Result<(), NoMemory>
+        ensures list { vector_list self.new ≡ vector_list self.old }
+        ensures bytes { vector_bytes self.new ≡ vector_bytes self.old }
+        ensures owned { OnOk result (vector_owned self.new ≡ true) }
+        ensures ok { OnOk result (n ≤ vector_spare self.new) }
+        ensures err { OnErr result (self.new ≡ self.old) }
+        ensures kept { vector_spare self.old ≤ vector_spare self.new }
+        ensures within { IsTrue (vector_owned self.old) → n ≤ vector_spare self.old →
+            IsOk result }
+    {
+        self.slot.reserve(alloc, self.view, n)
+    }
+
+    /// Makes room for `additional` elements more, of four bytes each, as
+    /// [`reserve_bytes`](Self::reserve_bytes).
+    pub fn reserve(&mut self, alloc: Global, additional: usize) -> Result<(), NoMemory>
+        ensures list { vector_list self.new ≡ vector_list self.old }
+        ensures bytes { vector_bytes self.new ≡ vector_bytes self.old }
+        ensures owned { OnOk result (vector_owned self.new ≡ true) }
+        ensures ok { OnOk result (additional * (F.W + 4) ≤ vector_spare self.new) }
+        ensures err { OnErr result (self.new ≡ self.old) }
+        ensures kept { vector_spare self.old ≤ vector_spare self.new }
+        ensures within { IsTrue (vector_owned self.old) →
+            additional * (F.W + 4) ≤ vector_spare self.old → IsOk result }
+    {
+        let _spare = self.spare();
+        let n = room_for::<F>(additional)?;
+        self.reserve_bytes(alloc, n)
+    }
+
+    /// Makes the list own its bytes: one that is borrowed is copied, byte for byte.
+    ///
+    /// # Errors
+    /// [`NoMemory`] at most where the list is borrowed, and then it stays so.
+    #[inline]
+    pub fn make_owned(&mut self, alloc: Global) -> Result<(), NoMemory>
+        ensures list { vector_list self.new ≡ vector_list self.old }
+        ensures bytes { vector_bytes self.new ≡ vector_bytes self.old }
+        ensures owned { OnOk result (vector_owned self.new ≡ true) }
+        ensures err { OnErr result (self.new ≡ self.old) }
+        ensures kept { vector_spare self.old ≤ vector_spare self.new }
+        ensures free { IsTrue (vector_owned self.old) → IsOk result }
+    {
+        self.reserve_bytes(alloc, 0)
+    }
+
+    /// The list of no elements, with room for `capacity` elements of four bytes each. It is
+    /// borrowed, and takes no memory, where `capacity` is 0.
+    pub fn with_capacity(alloc: Global, capacity: usize) -> Result<Self, NoMemory>
+        requires { IsTrue T.usable }
+        ensures list { IfOk result (λ v. vector_list v ≡ []) }
+        ensures bytes { IfOk result (λ v. vector_bytes v ≡ []) }
+        ensures owned { IfOk result (λ v. vector_owned v ≡ not (capacity == 0)) }
+        ensures spare { IfOk result (λ v. capacity * (F.W + 4) ≤ vector_spare v) }
+        ensures free { capacity ≡ 0 → IsOk result }
+    {
+        let mut list = VarZeroVec::new();
+        if capacity > 0 {
+            list.reserve(alloc, capacity)?;
+        }
+        Ok(list)
+    }
+
+    /// The list as one that owns its bytes. It takes memory only where it is borrowed.
+    pub fn into_owned(self, alloc: Global) -> Result<VarZeroVec<'static, T, F>, NoMemory>
+        ensures list { IfOk result (λ v. vector_list v ≡ vector_list self.entry) }
+        ensures bytes { IfOk result (λ v. vector_bytes v ≡ vector_bytes self.entry) }
+        ensures owned { IfOk result (λ v. vector_owned v ≡ true) }
+        ensures kept { IfOk result (λ v. vector_spare self.entry ≤ vector_spare v) }
+        ensures free { IsTrue (vector_owned self.entry) → IsOk result }
+    {
+        let owned = self.slot.into_list(alloc, self.view)?;
+        Ok(VarZeroVec::new_owned(owned))
+    }
+
+    /// The list's bytes. It takes memory only where they are borrowed.
+    pub fn into_bytes(self, alloc: Global) -> Result<Vec<u8>, NoMemory>
+        ensures bytes { IfOk result (λ v. v.items ≡ vector_bytes self.entry) }
+        ensures free { IsTrue (vector_owned self.entry) → IsOk result }
+    {
+        let owned = self.slot.into_list(alloc, self.view)?;
+        Ok(owned.into_bytes())
+    }
+
     /// How many bytes the list can grow by without memory: none where it is borrowed.
     #[inline]
     pub fn spare(&self) -> usize
@@ -456,6 +636,32 @@ impl<'a, T: ZvKind, F: VarZeroVecFormat> VarZeroVec<'a, T, F> {
             return Ok(VarZeroVec::new_owned(owned));
         }
         Ok(VarZeroVec::new_borrowed(self.view))
+    }
+}
+
+impl<T: VarULE, F: VarZeroVecFormat> VarZeroVec<'static, T, F> {
+    ghost use Rattle.zv_owned.specs.Vectors.{vector_bytes, vector_list, vector_owned};
+
+    /// The list of values' spellings. It owns its bytes, and is borrowed where there is no value.
+    ///
+    /// # Errors
+    /// As [`VarZeroVecOwned::try_from_elements`].
+    pub fn try_from_elements<A: EncodeAsVarULE<T>>(
+        alloc: Global,
+        elements: &[A],
+    ) -> Result<Self, VecError>
+        requires { IsTrue T.usable }
+        ensures list { IfOk result (λ v. vector_list v ≡ map A.spelling elements.now) }
+        ensures bytes { IfOk result (λ v. vector_bytes v ≡ enc F.W (map A.spelling elements.now)) }
+        ensures owned { IfOk result (λ v. vector_owned v ≡ not (length elements.now == 0)) }
+        ensures refused { TooLargeUnless (length elements.now == 0 ||
+            is_some (serialized_len A.fits A.spelling F.W elements.now)) result }
+    {
+        if elements.is_empty() {
+            return Ok(VarZeroVec::new());
+        }
+        let owned = VarZeroVecOwned::try_from_elements(alloc, elements)?;
+        Ok(VarZeroVec::new_owned(owned))
     }
 }
 

@@ -4,7 +4,8 @@ ghost use Rattle.std.specs.Prelude.{length, map, false, IsOk, OnErr, OnOk};
 ghost use Rattle.std.specs.List.{AllByRecursion, concat, flat_map, splice};
 ghost use Rattle.std.specs.Option.{ForSome, option_to_list};
 ghost use Rattle.zv_ule.specs.Bytes.{le};
-ghost use Rattle.zv_owned.specs.Splices.{CanShift, Edits, Puts, new_elements, shifted};
+ghost use Rattle.zv_owned.specs.Splices.{CanEdit, CanShift, Edits, Puts, new_elements};
+ghost use Rattle.zv_owned.specs.Splices.{shifted};
 
 use crate::moves::{Gap, fit_gaps};
 use crate::shelf::Shelf;
@@ -69,20 +70,24 @@ fn shift_fields<F: VarZeroVecFormat>(fields: &mut [u8], count: usize, into: usiz
     }
 }
 
-/// What changes in the bytes of a list: bytes of its starts give way to at most one start, and
-/// bytes of its elements to at most one element.
+/// What a change of a list changes in its bytes: a start may go or come, the starts after it move
+/// together, and bytes of the elements give way to others.
 #[derive(Clone, Copy, Debug, PartialEq, Eq)]
 pub(crate) struct Edit {
-    /// The fields that go, and as many bytes as the new start has.
-    pub(crate) fields: Gap,
-    /// The new start, if there is one.
+    /// How many fields stay in front: the count's, and those of the starts before the place.
+    pub(crate) kept: usize,
+    /// How many starts go.
+    pub(crate) gone: usize,
+    /// The start that comes, if one does.
     pub(crate) start: Option<usize>,
     /// How many starts there are after it.
     pub(crate) later: usize,
-    /// The elements that go, and as many bytes as the new one has.
-    pub(crate) body: Gap,
-    /// How many elements there are then.
-    pub(crate) count: usize,
+    /// How many bytes the elements before the place have.
+    pub(crate) before: usize,
+    /// How many bytes the elements that go have.
+    pub(crate) out: usize,
+    /// How many bytes come.
+    pub(crate) into: usize,
 }
 
 /// Writes the new start, if there is one.
@@ -175,53 +180,60 @@ fn put_count<F: VarZeroVecFormat, L: Ledger>(
     }
 }
 
+/// How many starts come.
+#[inline]
+fn count_of(start: Option<usize>) -> usize
+    ensures { result ≡ length (option_to_list start) }
+{
+    match start {
+        Some(_) => 1,
+        None => 0,
+    }
+}
+
 /// Makes a change in the bytes of a list.
 pub(crate) fn edit_bytes<T: ZvKind, F: VarZeroVecFormat, Q: ZvArg<T>, L: Ledger>(
     shelf: &mut Shelf,
-    edit: &Edit,
+    edit: Edit,
     value: Option<&Q>,
     steps: &mut Steps<L>,
 ) -> Result<(), NoMemory>
     requires usable { IsTrue T.usable }
-    requires head { F.W ≤ edit.now.fields.at }
-    requires order { edit.now.fields.at + edit.now.fields.out + F.W * edit.now.later
-        ≤ edit.now.body.at }
-    requires inside { edit.now.body.at + edit.now.body.out ≤ length shelf.old.bytes }
-    requires small { length shelf.old.bytes + edit.now.fields.into + edit.now.body.into < 2 ^ 64 }
-    requires short { edit.now.body.into < 2 ^ 63 }
-    requires start { edit.now.fields.into ≡ F.W * length (option_to_list edit.now.start) }
-    requires value { edit.now.body.into ≡ length (concat (new_elements Q.bytes value)) }
-    requires start_fits { ForSome edit.now.start (λ n. n < 256 ^ F.W) }
-    requires count_fits { edit.now.count < 256 ^ F.W }
-    ensures ok { OnOk result (Edits F.W edit.now (concat (new_elements Q.bytes value.entry))
+    requires can { CanEdit F.W (length shelf.old.bytes) (concat (new_elements Q.bytes value)) edit }
+    ensures ok { OnOk result (Edits F.W edit (concat (new_elements Q.bytes value.entry))
         shelf.old.bytes shelf.new.bytes) }
     ensures err { OnErr result (shelf.new ≡ shelf.old) }
-    ensures within { OnErr result (edit.now.fields.out + edit.now.body.out + shelf.old.spare <
-        edit.now.fields.into + edit.now.body.into) }
+    ensures within { OnErr result (F.W * edit.gone + edit.out + shelf.old.spare <
+        F.W * length (option_to_list edit.start) + edit.into) }
     ensures spare { OnOk result (shelf.old.spare ≤ shelf.new.spare +
-        (edit.now.fields.into + edit.now.body.into
-        - (edit.now.fields.out + edit.now.body.out))) }
+        (F.W * length (option_to_list edit.start) + edit.into - (F.W * edit.gone + edit.out))) }
     ensures steps { OnOk result (steps.new ≤ steps.old + (length shelf.old.bytes
-        - edit.now.fields.at - edit.now.fields.out - edit.now.body.out)
-        + (edit.now.fields.into + edit.now.body.into - (edit.now.fields.out + edit.now.body.out))
-        + edit.now.body.into + edit.now.fields.into + F.W * edit.now.later + F.W) }
-    ensures still { edit.now.fields.out ≡ 0 → edit.now.start ≡ None →
-        edit.now.body.out ≡ edit.now.body.into →
-        OnOk result (steps.new ≤ steps.old + edit.now.body.into) }
+        - F.W * edit.kept - F.W * edit.gone - edit.out)
+        + (F.W * length (option_to_list edit.start) + edit.into - (F.W * edit.gone + edit.out))
+        + edit.into + F.W * length (option_to_list edit.start) + F.W * edit.later + F.W) }
+    ensures still { edit.gone ≡ 0 → length (option_to_list edit.start) ≡ 0 →
+        edit.out ≡ edit.into → OnOk result (steps.new ≤ steps.old + edit.into) }
 {
-    let Edit {
-        fields,
-        start,
-        later,
-        body,
-        count,
-    } = *edit;
+    let width = F::W;
+    let comes = count_of(edit.start);
+    let at = width * edit.kept;
+    let fields = Gap {
+        at,
+        out: width * edit.gone,
+        into: width * comes,
+    };
+    let between = width * edit.later + edit.before;
+    let body = Gap {
+        at: at + fields.out + between,
+        out: edit.out,
+        into: edit.into,
+    };
     fit_gaps(shelf, fields, body, steps)?;
-    let at = body.at - fields.out + fields.into;
-    put_value::<T, Q, L>(shelf, at, value, steps);
-    put_start::<F, L>(shelf, fields.at, start, steps);
-    let after = fields.at + fields.into;
-    put_shifted::<F, L>(shelf, after, later, body.into, body.out, steps);
-    put_count::<F, L>(shelf, fields.into != fields.out, count, steps);
+    let after = at + fields.into;
+    put_value::<T, Q, L>(shelf, after + between, value, steps);
+    put_start::<F, L>(shelf, at, edit.start, steps);
+    put_shifted::<F, L>(shelf, after, edit.later, edit.into, edit.out, steps);
+    let count = edit.kept + comes + edit.later;
+    put_count::<F, L>(shelf, comes != edit.gone, count, steps);
     Ok(())
 }

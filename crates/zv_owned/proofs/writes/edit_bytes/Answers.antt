@@ -1,16 +1,32 @@
-use Rattle.std.proofs.Common.{ℕ, ◌≡◌, ◌+◌, arith, rules, length, ◌++◌, length-append}
+use Rattle.std.proofs.Common.{ℕ, ◌≡◌, ◌+◌, ◌*◌, length, ◌++◌, map, length-append, suc, ap, sym, ◌∙◌, arith}
+use Rattle.std.proofs.Math.Nat.{mul-suc}
 use Rattle.std.specs.List.{concat, flat_map}
+use Rattle.std.specs.Option.{option_to_list}
 use Rattle.zv_ule.specs.Bytes.{le}
-use Rattle.zv_owned.specs.Splices.{new_elements}
+use Rattle.zv_var.proofs.Fields.{length-flat_map-le}
+use Rattle.zv_owned.specs.Splices.{count_after, new_elements, shifted}
 use Rattle.zv_owned.proofs.Written.{edited}
 use Rattle.zv_owned.proofs.writes.edit_bytes.Goals as goal
 
 pub returns-clause-ok : goal.returns-clause-ok
-returns-clause-ok g c = λ h p gone ss d o t is lh lp lg later lm lo can same.
-    let edit = c.args.edit.now in
+returns-clause-ok g c = λ h ps gs ss d o t is lh lp lg ls ld lo can same.
+    let e = c.args.edit in
     let w : ℕ = g.F.VarZeroVecFormat.W in
-    let kept = flat_map (le w) ss ++ d in
-    edited edit.body.into edit.body.out edit.count edit.start h p ss d (concat (new_elements g.Q.ZvArg.bytes c.args.value)) t
-    (c.in_ok-fit_gaps.ensures.ok (h ++ p) gone kept o t is lp lg lm lo) c.requires.start c.requires.value lh lp
-    (omega (arith, lm, lp, lg, length-append (h ++ p) (gone ++ kept), length-append gone kept)) c.put_value.ensures.bytes c.put_start.ensures.bytes
-    (λ q r. c.put_shifted.ensures.bytes ss later can q r) c.put_count.ensures.bytes (λ e. same (grind arith))
+    let f = flat_map (le w) in
+    let v : ℕ = c.W-width.result in
+    let times = λ (n : ℕ). ap (λ (v : ℕ). v * n) c.W-width.ensures in
+    let n : e.kept + c.count_of-comes.result + e.later ≡ count_after e = ap (λ (n : ℕ). e.kept + n + e.later) c.count_of-comes.ensures in
+    let k : e.kept ≡ suc (length ps) = omega arith in
+    let front : length (h ++ f ps) ≡ v * e.kept =
+    omega (arith, length-append h (f ps), length-flat_map-le w ps, times e.kept, mul-suc w (length ps), ap (λ (n : ℕ). w * n) k) in
+    let gone : length (f gs) ≡ v * e.gone = length-flat_map-le w gs ∙ (ap (λ (n : ℕ). w * n) lg ∙ sym (times e.gone)) in
+    let kept : length (f ss ++ d) ≡ v * e.later + e.before =
+    omega (arith, length-append (f ss) d, length-flat_map-le w ss, ap (λ (n : ℕ). w * n) ls, times e.later) in
+    edited e.into e.out (e.kept + c.count_of-comes.result + e.later) e.start h (f ps) ss d (concat (new_elements g.Q.ZvArg.bytes c.args.value)) t
+    (c.in_ok-fit_gaps.ensures.ok (h ++ f ps) (f gs) (f ss ++ d) o t is front gone
+    (omega (arith, length-append {A = ℕ})) lo)
+    (times c.count_of-comes.result ∙ ap (λ (n : ℕ). w * n) c.count_of-comes.ensures) c.requires.can.into lh front (omega arith)
+    c.put_value.ensures.bytes c.put_start.ensures.bytes (λ q r. c.put_shifted.ensures.bytes ss ls can q r) c.put_count.ensures.bytes
+    (λ other. same (grind (arith, c.count_of-comes.ensures)) ∙ ap (le w) (sym n))
+    ∙ ap (λ (k : ℕ). le w k ++ (f ps ++ (f (option_to_list e.start) ++ (f (map (shifted e.into e.out) ss)
+    ++ (d ++ (concat (new_elements g.Q.ZvArg.bytes c.args.value) ++ t)))))) n

@@ -1,8 +1,7 @@
-use Rattle.std.proofs.Common.{ℕ, List, ◌≡◌, ◌*◌, ◌∙◌, ◌++◌, ap, sym, length, map}
+use Rattle.std.proofs.Common.{ℕ, List, ◌≡◌, ◌*◌, ◌∙◌, ◌++◌, ap, sym, length}
 use Rattle.std.specs.List.{flat_map}
 use Rattle.zv_ule.specs.Bytes.{le}
 use Rattle.zv_var.proofs.Fields.{length-flat_map-le}
-use Rattle.zv_owned.specs.Splices.{shifted}
 use Rattle.zv_owned.proofs.Shifts.{lent, not_shifted, put_back}
 use Rattle.zv_owned.proofs.writes.put_shifted.Goals as goal
 

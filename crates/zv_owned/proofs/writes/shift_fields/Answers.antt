@@ -8,8 +8,7 @@ loop-place-preserved g c =
     let before = c.loop-place.invariant in
     record {
       at = search rules;
-      long = search rules;
       done = λ ss is count can. one_shifted ss c.W-width.ensures before.at (c.MAX-most.ensures ∙ f.max_is) f.field_small
-          (omega (arith, count, c.loop-place-test.true)) can c.requires.small (omega arith)
-          (before.done ss is count can) c.read_start.ensures.value refl c.write_start.ensures;
+          (omega (arith, count, c.loop-place-test.true)) can c.requires.small (omega arith) (before.done ss is count can)
+          c.read_start.ensures.value refl c.write_start.ensures;
     }

@@ -10,7 +10,6 @@ invariant-loop-place g l =
     let w : ℕ = g.F.VarZeroVecFormat.W in
     record {
       at : l.at ≡ w * l._place;
-      long : length l.fields ≡ w * l.count;
       done : (ss : List ℕ) → l.fn.fields ≡ flat_map (le w) ss → length ss ≡ l.count → CanShift w l.into l.out ss →
           l.fields ≡ flat_map (le w) (map (shifted l.into l.out) (take l._place ss)) ++ flat_map (le w) (drop l._place ss);
     }

@@ -10,14 +10,7 @@ refilled : (b w : List ℕ) (a n : ℕ) → n ≡ length b → a ≤ length b �
     ≡ take (length b) (splice b a (a + length w) w)
 refilled b w a n e h =
     let all : List ℕ = take a b ++ (w ++ drop (length w) (drop a b)) in
-    let long : length b ≤ length all = omega (
-      arith,
-      length-append (take a b) (w ++ drop (length w) (drop a b)),
-      length-append w (drop (length w) (drop a b)),
-      length-drop (length w) (drop a b),
-      length-drop a b,
-      length-take-le a b h,
-    ) in
+    let long : length b ≤ length all = omega (arith, length-append {A = ℕ}, length-drop {A = ℕ}, length-take-le a b h) in
     rw e (take-append-le (length b) all (drop (length all) b) long) ∙ ap (λ (l : List ℕ). take (length b) (take a b ++ (w ++ l))) (drop-drop (length w) a b)
 
 pub returns : goal.returns

@@ -1,0 +1,12 @@
+use Rattle.std.proofs.Common.{length, ap, sym, ◌∙◌}
+use Rattle.zv_var.proofs.Read.{Part_from_fault}
+use Rattle.zv_var.specs.Views.{list_of}
+use Rattle.zv_owned.proofs.SizeRule.{size_from_Part}
+use Rattle.zv_owned.proofs.size.size_of.Goals as goal
+
+pub returns-clause-is : goal.returns-clause-is
+returns-clause-is g c =
+    let w = g.F.VarZeroVecFormat.W in
+    let list = c.args.list in
+    ap length c.as_bytes.ensures.bytes ∙ sym (size_from_Part w list.bytes.now (list_of list)
+    (Part_from_fault w g.T.ZvKind.fault list.bytes.now g.F.VarZeroVecFormat.width_positive list.each list.spells) c.requires)

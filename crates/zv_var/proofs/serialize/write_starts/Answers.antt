@@ -1,0 +1,39 @@
+use Rattle.std.proofs.Common.{ℕ, ◌+◌, ◌<◌, length, arith, rules, ap, ◌∙◌}
+use Rattle.zv_ule.specs.Bytes.{le}
+use Rattle.zv_var.proofs.Serialized.{field_within, next_field, spelled_more, start_more, starts_written, within}
+use Rattle.zv_var.proofs.serialize.write_starts.Goals as goal
+
+pub overflow_add-start : goal.overflow_add-start
+overflow_add-start g c =
+    let k = within g.A.EncodeAsVarULE.spelling c.args.elements.now c.loop-index.index c.index-elements-index.result (omega arith) c.index-elements-index.is in
+    omega (arith, g.F.VarZeroVecFormat.field_small)
+
+pub write_start-requires-clause-fits : goal.write_start-requires-clause-fits
+write_start-requires-clause-fits g c =
+    let k = within g.A.EncodeAsVarULE.spelling c.args.elements.now c.loop-index.index c.index-elements-index.result (omega arith) c.index-elements-index.is in
+    omega arith
+
+pub slice_bounds-write_start-end : goal.slice_bounds-write_start-end
+slice_bounds-write_start-end g c = let k = field_within g.F.VarZeroVecFormat.W (length c.args.elements.now) c.loop-index.index (omega arith) in omega arith
+
+pub loop-index-preserved : goal.loop-index-preserved
+loop-index-preserved g c =
+    let kept = c.loop-index.invariant in
+    let f = g.A.EncodeAsVarULE.spelling in
+    let xs = c.args.elements.now in
+    let x = c.index-elements-index.result in
+    let w = g.F.VarZeroVecFormat.W in
+    let more : c.loop-index.index + 1 < length xs = omega arith in
+    record {
+      long = search rules;
+      at = next_field w c.loop-index.index c.loop-index.at c.W-width.result c.W-width.ensures kept.at;
+      start = omega (arith, spelled_more f xs c.loop-index.index x (omega arith) c.index-elements-index.is);
+      done = start_more f xs w c.W-width.result c.loop-index.index c.loop-index.at c.loop-index.start x c.loop-index.out c.write_start.new.field more
+          c.index-elements-index.is c.W-width.ensures kept.at kept.start kept.long
+          (c.write_start.ensures ∙ ap (λ (n : ℕ). le w (c.loop-index.start + n)) c.encode_var_ule_len-start.ensures.len) kept.done;
+    }
+
+pub returns : goal.returns
+returns g c = let end = c.loop-index.invariant in
+    starts_written g.A.EncodeAsVarULE.spelling c.args.elements.now g.F.VarZeroVecFormat.W c.loop-index.index c.loop-index.at c.loop-index.out
+    end.at (omega arith) end.long end.done
