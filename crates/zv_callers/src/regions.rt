@@ -37,7 +37,7 @@ pub fn set_region(
         (find by_bytes by_bytes table.new.rows language.now script.now ≡ Some region.now) }
     ensures had_none { IfOk result (λ had_none. had_none ≡
         is_none (find by_bytes by_bytes table.old.rows language.now script.now)) }
-    ensures err { OnErr result (table.new ≡ table.old) }
+    ensures err { OnErr result (table.new.rows ≡ table.old.rows) }
 {
     let old = table.insert(alloc, &language, &script, &region)?;
     Ok(old.is_none())
@@ -54,7 +54,7 @@ pub fn clear_region(
         del by_bytes by_bytes table.old.rows language.now script.now) }
     ensures gone { OnOk result
         (find by_bytes by_bytes table.new.rows language.now script.now ≡ None) }
-    ensures err { OnErr result (table.new ≡ table.old) }
+    ensures err { OnErr result (table.new.rows ≡ table.old.rows) }
 {
     table.in_order();
     let _ = table.remove(alloc, &language, &script)?;

@@ -159,6 +159,50 @@ fn changes_texts<'a, C: MutableZeroVecLike<'a, StrULE, OwnedType = VarBox<StrULE
     Ok(())
 }
 
+// The empty list has no bytes of its own, and then has them, with room.
+fn makes_room<'a, T: ZvKind, C: MutableZeroVecLike<'a, T>>(
+    rt: &impl Abort,
+    alloc: Global,
+    list: &mut C,
+) -> Result<(), Fail> {
+    assert!(rt; !list.zvl_is_owned());
+    list.zvl_make_owned(alloc)?;
+    assert!(rt; list.zvl_is_owned());
+    list.zvl_reserve(alloc, 2)?;
+    list.zvl_reserve_bytes(alloc, 16)?;
+    assert!(rt; list.zvl_is_empty());
+    Ok(())
+}
+
+#[test]
+fn numbers_are_put_in_room(rt: HostRuntime) -> Result<(), Fail> {
+    let alloc = rt.alloc();
+    let mut list = <Of<'_, u16> as MutableZeroVecLike<'_, u16>>::zvl_with_capacity(alloc, 0)?;
+    makes_room::<u16, Of<'_, u16>>(&rt, alloc, &mut list)?;
+    list.zvl_reserve_bytes(alloc, 2)?;
+    assert_eq!(rt; list.zvl_put_reserved(0, false, &7), Ok(()));
+    list.zvl_reserve_bytes(alloc, 2)?;
+    assert!(rt; 0 < list.zvl_len());
+    assert_eq!(rt; list.zvl_put_reserved(0, true, &9), Ok(()));
+    assert_eq!(rt; list.zvl_bytes(), [9, 0].as_slice());
+    Ok(())
+}
+
+#[test]
+fn texts_are_put_in_room(rt: HostRuntime) -> Result<(), Fail> {
+    let alloc = rt.alloc();
+    let mut list = <Of<'_, StrULE> as MutableZeroVecLike<'_, StrULE>>::zvl_with_capacity(alloc, 0)?;
+    makes_room::<StrULE, Of<'_, StrULE>>(&rt, alloc, &mut list)?;
+    list.zvl_reserve_bytes(alloc, 4)?;
+    assert_eq!(rt; list.zvl_put_reserved(0, false, &"ab"), Ok(()));
+    assert_eq!(rt; list.zvl_bytes(), [1, 0, 97, 98].as_slice());
+    list.zvl_make_owned(alloc)?;
+    assert!(rt; 0 < list.zvl_len());
+    list.zvl_discard(0);
+    assert!(rt; list.zvl_bytes().is_empty());
+    Ok(())
+}
+
 // Which lengths the container takes as one element more.
 fn takes<T: ZvKind, C: ZvContainer<T>>(rt: &impl Abort, list: &C, inserts: &[(usize, bool)]) {
     for (len, taken) in inserts {

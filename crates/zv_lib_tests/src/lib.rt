@@ -8,8 +8,12 @@ mod counted;
 #[cfg(test)]
 mod digests;
 #[cfg(test)]
+mod fixed;
+#[cfg(test)]
 mod lists;
 #[cfg(test)]
 mod maps;
+#[cfg(test)]
+mod splices;
 #[cfg(test)]
 mod vectors;

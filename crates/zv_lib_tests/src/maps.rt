@@ -232,3 +232,51 @@ fn a_table_of_regions(rt: HostRuntime) -> Result<(), Fail> {
     assert!(rt; has_region(&table, "sd", "Arab", Some("PK")));
     Ok(())
 }
+
+// Room for one put of a first key and a second of two bytes each, and a value of five.
+fn put_in_room(
+    rt: &impl Abort,
+    alloc: Global,
+    map: &mut ZeroMap2d<'_, u16, u16, StrULE>,
+) -> Result<(), Fail> {
+    map.reserve_for(alloc, 2, 2, 5, 1)?;
+    assert_eq!(rt; map.put_reserved(&1, &2, &"three"), Ok(false));
+    assert_eq!(rt; map.canon_parts().values, b"\x01\x00three".as_slice());
+    Ok(())
+}
+
+// The put would fit again, and the pair goes.
+fn discard_pair(
+    rt: &impl Abort,
+    alloc: Global,
+    map: &mut ZeroMap2d<'_, u16, u16, StrULE>,
+) -> Result<(), Fail> {
+    assert!(rt; map.would_take(&1, &2, &"three"));
+    map.make_owned(alloc)?;
+    assert!(rt; !map.discard(&2, &2));
+    map.make_owned(alloc)?;
+    assert!(rt; map.discard(&1, &2));
+    assert!(rt; map.is_empty());
+    Ok(())
+}
+
+#[test]
+fn pairs_come_and_go_in_room(rt: HostRuntime) -> Result<(), Fail> {
+    let alloc = rt.alloc();
+    let mut map = ZeroMap2d::<'_, u16, u16, StrULE>::with_capacity(alloc, 3)?;
+    assert!(rt; map.is_empty());
+    map.reserve(alloc, 4)?;
+    map.reserve_for(alloc, 0, 0, 0, 0)?;
+    put_in_room(&rt, alloc, &mut map)?;
+    discard_pair(&rt, alloc, &mut map)
+}
+
+#[test]
+fn too_many_puts_have_no_room(rt: HostRuntime) -> Result<(), Fail> {
+    let mut map = Texts::new();
+    assert_eq!(rt;
+        map.reserve_for(rt.alloc(), 0, 0, 0, 4_294_967_296),
+        Err(Map2dError::TooMany)
+    );
+    Ok(())
+}

@@ -6,7 +6,7 @@ ghost use Rattle.zv_map.specs.Forms.{is_fixed};
 ghost use Rattle.zv_map.specs.Keys.{nth};
 ghost use Rattle.zv_map.specs.declared.view.Form.TheVariants.{Fixed};
 
-use crate::error::MapError;
+use crate::error::{MapError, TooLarge};
 use crate::vecs::{MutableZeroVecLike, ZeroVecLike, ZvContainer};
 use crate::view::{Form, KvSlice, RawView};
 use std::alloc::Global;
@@ -79,6 +79,8 @@ impl<'a, T: AsULE> ZvContainer<T> for ZeroVec<'a, T> {
 
     ghost field = { 0 };
 
+    ghost element_room = { T.ULE.width };
+
     ghost takes_insert = { λ _ _. true };
 
     ghost takes_replace = { λ _ _ _. true };
@@ -94,6 +96,22 @@ impl<'a, T: AsULE> ZvContainer<T> for ZeroVec<'a, T> {
     #[inline]
     fn zvl_is_owned(&self) -> bool {
         self.is_owned()
+    }
+
+    #[inline]
+    fn zvl_field(&self) -> usize {
+        0
+    }
+
+    #[inline]
+    fn zvl_element_room(&self) -> usize {
+        self.all_read();
+        <T::ULE as ULE>::size()
+    }
+
+    #[inline]
+    fn zvl_get_owned(&self, _alloc: Global, index: usize) -> Result<T, NoMemory> {
+        Ok(value_at(self, index))
     }
 
     #[inline]
@@ -121,6 +139,47 @@ impl<'a, T: AsULE> ZvContainer<T> for ZeroVec<'a, T> {
         self.remove_all();
     }
 
+    #[inline]
+    fn zvl_make_owned(&mut self, alloc: Global) -> Result<(), NoMemory> {
+        self.make_owned(alloc)
+    }
+
+    #[inline]
+    fn zvl_reserve_bytes(&mut self, alloc: Global, n: usize) -> Result<(), NoMemory> {
+        self.reserve_bytes(alloc, n)
+    }
+
+    #[inline]
+    fn zvl_insert_reserved<Q: ZvArg<T>>(&mut self, index: usize, value: &Q) {
+        self.insert_owned_arg(index, value);
+    }
+
+    #[inline]
+    fn zvl_replace_reserved<Q: ZvArg<T>>(&mut self, index: usize, value: &Q) {
+        self.set_owned_arg(index, value);
+    }
+
+    #[inline]
+    fn zvl_put_reserved<Q: ZvArg<T>>(
+        &mut self,
+        index: usize,
+        replace: bool,
+        value: &Q,
+    ) -> Result<(), TooLarge> {
+        if replace {
+            self.zvl_replace_reserved(index, value);
+        } else {
+            self.zvl_insert_reserved(index, value);
+        }
+        Ok(())
+    }
+
+    #[inline]
+    fn zvl_discard(&mut self, index: usize) {
+        self.all_read();
+        let _ = self.remove_owned(index);
+    }
+
     ghost small_field = { Prim.omega arith };
 
     ghost ready_owned = { λ v h. h };
@@ -142,6 +201,14 @@ impl<'a, T: AsULE> MutableZeroVecLike<'a, T> for ZeroVec<'a, T> {
     #[inline]
     fn zvl_new() -> Self {
         ZeroVec::new()
+    }
+
+    #[inline]
+    fn zvl_with_capacity(alloc: Global, capacity: usize) -> Result<Self, NoMemory> {
+        if capacity == 0 {
+            return Ok(ZeroVec::new());
+        }
+        ZeroVec::with_capacity(alloc, capacity)
     }
 
     #[inline]

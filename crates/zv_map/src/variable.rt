@@ -1,5 +1,6 @@
 // The container of elements of any length.
-ghost use Rattle.std.specs.Prelude.{◌≡◌, ℕ, ◌==◌, ◌<◌, List, [], length, refl, None, IsTrue, IfOk};
+ghost use Rattle.std.specs.Prelude.{◌≡◌, ℕ, ◌==◌, ◌+◌, ◌<◌, List, [], length, refl, None, IsTrue};
+ghost use Rattle.std.specs.Prelude.{IfOk};
 ghost use Rattle.zv_ule.specs.Views.{element_of};
 ghost use Rattle.zv_var.specs.Format.{elements, enc, list_fault};
 ghost use Rattle.zv_var.specs.Nested.{slice_fault};
@@ -12,7 +13,7 @@ ghost use Rattle.zv_map.specs.declared.view.Form.{Form};
 ghost use Rattle.zv_map.specs.declared.view.Form.TheVariants.{Index16 as FormIndex16};
 ghost use Rattle.zv_map.specs.declared.view.Form.TheVariants.{Index32 as FormIndex32};
 
-use crate::error::MapError;
+use crate::error::{MapError, TooLarge};
 use crate::search::Indexed;
 use crate::vecs::{MutableZeroVecLike, ZeroVecLike, ZvContainer};
 use crate::view::{Form, KvSlice, RawView};
@@ -122,19 +123,6 @@ fn encoding<T: ZvKind, F: MapForm>(bytes: &[u8]) -> &[u8]
     bytes
 }
 
-/// A copy of the element at a place, in a box of its own.
-#[inline]
-fn boxed_at<T: ZvKind, F: MapForm>(
-    list: &VarZeroVec<'_, T, F>,
-    alloc: Global,
-    index: usize,
-) -> Result<VarBox<T>, NoMemory>
-    requires { index < length (vector_list list.now) }
-    ensures { IfOk result (λ b. b ≡ nth (vector_list list.now) index) }
-{
-    Indexed::new(list).element_at(index).to_boxed(alloc)
-}
-
 impl<'a, T: ZvKind, F: MapForm> ZvContainer<T> for VarZeroVec<'a, T, F> {
     ghost use Rattle.zv_owned.proofs.Pushes.{any_order};
     ghost use Rattle.zv_map.specs.Laws.{encoding_reads, encoding_sound, form_has};
@@ -148,6 +136,8 @@ impl<'a, T: ZvKind, F: MapForm> ZvContainer<T> for VarZeroVec<'a, T, F> {
     ghost ready = { vector_owned };
 
     ghost field = { F.W };
+
+    ghost element_room = { F.W + 4 };
 
     ghost takes_insert = { takes_insert F.W };
 
@@ -164,6 +154,21 @@ impl<'a, T: ZvKind, F: MapForm> ZvContainer<T> for VarZeroVec<'a, T, F> {
     #[inline]
     fn zvl_is_owned(&self) -> bool {
         self.is_owned()
+    }
+
+    #[inline]
+    fn zvl_field(&self) -> usize {
+        F::W
+    }
+
+    #[inline]
+    fn zvl_element_room(&self) -> usize {
+        F::W + 4
+    }
+
+    #[inline]
+    fn zvl_get_owned(&self, alloc: Global, index: usize) -> Result<VarBox<T>, NoMemory> {
+        Indexed::new(self).element_at(index).to_boxed(alloc)
     }
 
     #[inline]
@@ -195,6 +200,52 @@ impl<'a, T: ZvKind, F: MapForm> ZvContainer<T> for VarZeroVec<'a, T, F> {
         self.clear();
     }
 
+    #[inline]
+    fn zvl_make_owned(&mut self, alloc: Global) -> Result<(), NoMemory> {
+        self.make_owned(alloc)
+    }
+
+    #[inline]
+    fn zvl_reserve_bytes(&mut self, alloc: Global, n: usize) -> Result<(), NoMemory> {
+        self.reserve_bytes(alloc, n)
+    }
+
+    #[inline]
+    fn zvl_insert_reserved<Q: ZvArg<T>>(&mut self, index: usize, value: &Q) {
+        self.insert_reserved(index, value);
+    }
+
+    #[inline]
+    fn zvl_replace_reserved<Q: ZvArg<T>>(&mut self, index: usize, value: &Q) {
+        self.replace_reserved(index, value);
+    }
+
+    fn zvl_put_reserved<Q: ZvArg<T>>(
+        &mut self,
+        index: usize,
+        replace: bool,
+        value: &Q,
+    ) -> Result<(), TooLarge> {
+        let len = value.arg_len();
+        if replace {
+            if !self.takes_replace(index, len) {
+                return Err(TooLarge);
+            }
+            self.replace_reserved(index, value);
+        } else {
+            if !self.takes_insert(len) {
+                return Err(TooLarge);
+            }
+            self.insert_reserved(index, value);
+        }
+        Ok(())
+    }
+
+    #[inline]
+    fn zvl_discard(&mut self, index: usize) {
+        self.remove_reserved(index);
+    }
+
     ghost small_field = { F.width_small };
 
     ghost ready_owned = { λ v h. h };
@@ -216,6 +267,11 @@ impl<'a, T: ZvKind, F: MapForm> MutableZeroVecLike<'a, T> for VarZeroVec<'a, T, 
     #[inline]
     fn zvl_new() -> Self {
         VarZeroVec::new()
+    }
+
+    #[inline]
+    fn zvl_with_capacity(alloc: Global, capacity: usize) -> Result<Self, NoMemory> {
+        VarZeroVec::with_capacity(alloc, capacity)
     }
 
     #[inline]
@@ -270,13 +326,13 @@ impl<'a, T: ZvKind, F: MapForm> MutableZeroVecLike<'a, T> for VarZeroVec<'a, T, 
         if !self.takes_replace(index, value.arg_len()) {
             return Err(MapError::TooLarge);
         }
-        let old = boxed_at(self, alloc, index)?;
+        let old = self.zvl_get_owned(alloc, index)?;
         self.replace_arg(alloc, index, value)?;
         Ok(old)
     }
 
     fn zvl_remove(&mut self, alloc: Global, index: usize) -> Result<VarBox<T>, NoMemory> {
-        let old = boxed_at(self, alloc, index)?;
+        let old = self.zvl_get_owned(alloc, index)?;
         self.remove(alloc, index)?;
         Ok(old)
     }

@@ -1,7 +1,8 @@
 // What the containers of maps are.
-ghost use Rattle.std.specs.Prelude.{◌≡◌, ℕ, ◌==◌, ◌||◌, ◌+◌, ◌^◌, ◌<◌, ◌≤◌, List, [], ◌∷◌, ◌++◌};
+ghost use Rattle.std.specs.Prelude.{◌≡◌, ℕ, ◌==◌, ◌||◌, ◌+◌, ◌*◌, ◌^◌, ◌<◌, ◌≤◌, List, []};
+ghost use Rattle.std.specs.Prelude.{◌∷◌, ◌++◌};
 ghost use Rattle.std.specs.Prelude.{length, Option, None, is_some, IfSome, Bool, true, false, not};
-ghost use Rattle.std.specs.Prelude.{IsTrue, IfOk, OnOk, OnErr, set, IsPermutation};
+ghost use Rattle.std.specs.Prelude.{IsTrue, IfOk, OnOk, OnErr, is_ok, set, IsPermutation};
 ghost use Rattle.std.specs.List.{insert, remove, slice_get};
 ghost use Rattle.std.specs.Option.{option_map};
 ghost use Rattle.std.specs.Result.{result_err};
@@ -12,10 +13,11 @@ ghost use Rattle.zv_owned.specs.Size.{takes_pushes};
 ghost use Rattle.zv_map.specs.Forms.{list_in, spells_in};
 ghost use Rattle.zv_map.specs.Keys.{nth};
 ghost use Rattle.zv_map.specs.Refusals.{TooLargeUnless};
+ghost use Rattle.zv_map.specs.Reserved.{HasPlace, HasRoom, IsTaken, put_at, takes_put};
 ghost use Rattle.zv_map.specs.Views.{bytes_of, list_of};
 ghost use Rattle.zv_map.specs.declared.view.Form.{Form};
 
-use crate::error::MapError;
+use crate::error::{MapError, TooLarge};
 use crate::view::{KvSlice, RawView};
 use std::alloc::Global;
 use zv_ule::{NoMemory, UleError, VarRef, ZvArg, ZvKind};
@@ -61,7 +63,8 @@ pub trait ZeroVecLike<T: ZvKind>: Sized {
 }
 
 /// A container that borrows or owns the bytes of its list. What it means for contracts stands here,
-/// and its changes in [`MutableZeroVecLike`]: a trait with a lifetime can't have meanings.
+/// with the calls on its room and the changes that take no memory; the others stand in
+/// [`MutableZeroVecLike`]: a trait with a lifetime can't have meanings.
 ///
 /// The meanings are data that each container gives, and the laws after the calls tie them.
 pub trait ZvContainer<T: ZvKind>: ZeroVecLike<T> {
@@ -81,6 +84,9 @@ pub trait ZvContainer<T: ZvKind>: ZeroVecLike<T> {
     /// How many bytes an element takes beside its own: the width of a field, and 0 where there are
     /// no fields.
     ghost field: { ℕ };
+
+    /// How many bytes are reserved for an element whose length isn't known.
+    ghost element_room: { ℕ };
 
     /// The size rule: whether the list takes one element more, of so many bytes.
     ghost takes_insert: { List (List ℕ) → ℕ → Bool };
@@ -104,6 +110,19 @@ pub trait ZvContainer<T: ZvKind>: ZeroVecLike<T> {
     /// Whether the container owns its bytes.
     fn zvl_is_owned(&self) -> bool
         ensures { result ≡ owned self.now };
+
+    /// How many bytes an element takes beside its own.
+    fn zvl_field(&self) -> usize
+        ensures { result ≡ field };
+
+    /// How many bytes are reserved for an element whose length isn't known.
+    fn zvl_element_room(&self) -> usize
+        ensures { result ≡ element_room };
+
+    /// A copy of the element at a place.
+    fn zvl_get_owned(&self, alloc: Global, index: usize) -> Result<Self::OwnedType, NoMemory>
+        requires { index < length (Self.list self.now) }
+        ensures { IfOk result (λ e. Self.OwnedType.bytes e ≡ nth (Self.list self.now) index) };
 
     /// The bytes. They are those that were borrowed, or as the last change left them.
     fn zvl_bytes(&self) -> &[u8]
@@ -132,6 +151,97 @@ pub trait ZvContainer<T: ZvKind>: ZeroVecLike<T> {
         ensures bytes { Self.bytes self.new ≡ [] }
         ensures owned { owned self.new ≡ owned self.old }
         ensures spare { spare self.old ≤ spare self.new };
+
+    /// Makes the container own its bytes. One that does is never refused.
+    fn zvl_make_owned(&mut self, alloc: Global) -> Result<(), NoMemory>
+        ensures list { Self.list self.new ≡ Self.list self.old }
+        ensures bytes { Self.bytes self.new ≡ Self.bytes self.old }
+        ensures owned { OnOk result (Self.owned self.new ≡ true) }
+        ensures err { OnErr result (self.new ≡ self.old) };
+
+    /// Makes the container own its bytes, with room for so many elements more whose lengths aren't
+    /// known.
+    fn zvl_reserve(&mut self, alloc: Global, additional: usize) -> Result<(), NoMemory>
+        ensures list { Self.list self.new ≡ Self.list self.old }
+        ensures bytes { Self.bytes self.new ≡ Self.bytes self.old }
+        ensures owned { OnOk result (Self.owned self.new ≡ true) }
+        ensures room { OnOk result (additional * Self.element_room ≤ Self.spare self.new) }
+        ensures err { OnErr result (self.new ≡ self.old) }
+    {
+        match additional.checked_mul(self.zvl_element_room()) {
+            Some(n) => self.zvl_reserve_bytes(alloc, n),
+            None => Err(NoMemory),
+        }
+    }
+
+    /// Makes the container own its bytes, with `n` bytes to spare at least, so that changes that
+    /// need no more take no memory.
+    fn zvl_reserve_bytes(&mut self, alloc: Global, n: usize) -> Result<(), NoMemory>
+        ensures list { Self.list self.new ≡ Self.list self.old }
+        ensures bytes { Self.bytes self.new ≡ Self.bytes self.old }
+        ensures ready { OnOk result (Self.ready self.new ≡ true) }
+        ensures room { OnOk result (n ≤ Self.spare self.new) }
+        ensures spare { Self.spare self.old ≤ Self.spare self.new }
+        ensures err { OnErr result (self.new ≡ self.old) };
+
+    /// Puts an element, which the size rule takes, before the one at a place. It takes no memory.
+    fn zvl_insert_reserved<Q: ZvArg<T>>(&mut self, index: usize, value: &Q)
+        requires below { length (Q.bytes value.now) < 2 ^ 64 }
+        requires place { index ≤ length (Self.list self.old) }
+        requires taken { IsTaken (Self.takes_insert (Self.list self.old)
+            (length (Q.bytes value.now))) }
+        requires room { HasRoom (Self.owned self.old) (Self.spare self.old)
+            (length (Q.bytes value.now) + Self.field) }
+        ensures list { Self.list self.new
+            ≡ insert (Self.list self.old) index (Q.bytes value.now) }
+        ensures ready { Self.ready self.new ≡ true }
+        ensures spare { Self.spare self.old
+            ≤ Self.spare self.new + (length (Q.bytes value.now) + Self.field) };
+
+    /// Puts an element, which the size rule takes, in the place of another. It takes no memory.
+    fn zvl_replace_reserved<Q: ZvArg<T>>(&mut self, index: usize, value: &Q)
+        requires below { length (Q.bytes value.now) < 2 ^ 64 }
+        requires place { index < length (Self.list self.old) }
+        requires taken { IsTaken (Self.takes_replace (Self.list self.old) index
+            (length (Q.bytes value.now))) }
+        requires room { HasRoom (Self.owned self.old) (Self.spare self.old)
+            (length (Q.bytes value.now) + Self.field) }
+        ensures list { Self.list self.new ≡ set (Self.list self.old) index (Q.bytes value.now) }
+        ensures ready { Self.ready self.new ≡ true }
+        ensures spare { Self.spare self.old
+            ≤ Self.spare self.new + (length (Q.bytes value.now) + Self.field) };
+
+    /// Puts an element before the one at a place, or in its place. It takes no memory.
+    ///
+    /// # Errors
+    /// [`TooLarge`] where the size rule refuses it; then nothing is changed.
+    fn zvl_put_reserved<Q: ZvArg<T>>(
+        &mut self,
+        index: usize,
+        replace: bool,
+        value: &Q,
+    ) -> Result<(), TooLarge>
+        requires below { length (Q.bytes value.now) < 2 ^ 64 }
+        requires place { HasPlace replace (length (Self.list self.old)) index }
+        requires room { HasRoom (Self.owned self.old) (Self.spare self.old)
+            (length (Q.bytes value.now) + Self.field) }
+        ensures ok { OnOk result (Self.list self.new
+            ≡ put_at replace (Self.list self.old) index (Q.bytes value.now)) }
+        ensures err { OnErr result (self.new ≡ self.old) }
+        ensures refused { is_ok result ≡ takes_put Self.takes_insert Self.takes_replace replace
+            (Self.list self.old) index (length (Q.bytes value.now)) }
+        ensures ready { OnOk result (Self.ready self.new ≡ true) }
+        ensures spare { Self.spare self.old
+            ≤ Self.spare self.new + (length (Q.bytes value.now) + Self.field) };
+
+    /// Takes an element out. It takes no memory.
+    fn zvl_discard(&mut self, index: usize)
+        requires place { index < length (Self.list self.old) }
+        requires owned { Self.owned self.old ≡ true }
+        ensures list { Self.list self.new ≡ remove (Self.list self.old) index }
+        ensures owned { Self.owned self.new ≡ true }
+        ensures ready { Self.ready self.new ≡ Self.ready self.old }
+        ensures spare { Self.spare self.old ≤ Self.spare self.new };
 
     /// A field is small: at most four bytes.
     ghost small_field: { field ≤ 4 };
@@ -163,13 +273,22 @@ pub trait ZvContainer<T: ZvKind>: ZeroVecLike<T> {
 
 /// A container whose list can be changed. Bytes that are borrowed are never written: the first
 /// change makes the container own its bytes. A refused change leaves the container as it was.
-pub trait MutableZeroVecLike<'a, T: ZvKind>: ZvContainer<T> {
+pub trait MutableZeroVecLike<'a, T: ZvKind>: ZvContainer<T> + Drop {
     /// The empty list, borrowed.
     fn zvl_new() -> Self
         requires { IsTrue T.usable }
         ensures list { Self.list result ≡ [] }
         ensures bytes { Self.bytes result ≡ [] }
         ensures owned { Self.owned result ≡ false };
+
+    /// The empty list, with room for so many elements whose lengths aren't known. It owns its bytes
+    /// where that is one element at least.
+    fn zvl_with_capacity(alloc: Global, capacity: usize) -> Result<Self, NoMemory>
+        requires { IsTrue T.usable }
+        ensures list { IfOk result (λ c. Self.list c ≡ []) }
+        ensures bytes { IfOk result (λ c. Self.bytes c ≡ []) }
+        ensures owned { IfOk result (λ c. Self.owned c ≡ not (capacity == 0)) }
+        ensures spare { IfOk result (λ c. capacity * Self.element_room ≤ Self.spare c) };
 
     /// The list that bytes spell, borrowed.
     fn zvl_parse(bytes: &'a [u8]) -> Result<Self, UleError>

@@ -4,9 +4,10 @@ pub mod Flat
 pub mod Kept
 pub mod Numbers
 pub mod OnlyImage
-pub mod Outcomes
 pub mod PairPlaces
 pub mod Parsed
+pub mod Places
+pub mod Room
 pub mod RowPairs
 pub mod Seen
 pub mod Splices

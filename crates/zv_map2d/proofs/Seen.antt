@@ -8,7 +8,6 @@ use Rattle.zv_map.proofs.Places.{compared_range}
 use Rattle.zv_map.specs.Maps.{keys_of, values_of, set_value_at}
 use Rattle.zv_ule.specs.Search.{compared, Found}
 use Rattle.zv_map2d.specs.Keys.{Bytes}
-use Rattle.zv_map2d.specs.Refusals.{is_full}
 use Rattle.zv_map2d.specs.Rows.{Rows, firsts, seconds, values, ends, IsFlat, before, row_at, rows_of}
 use Rattle.zv_map2d.specs.Views.{AreColumns, Map2d, Vector}
 use Rattle.zv_map2d.proofs.Splices.{value_set}
@@ -41,8 +40,14 @@ before_mono m i j h =
     let t : before (take j m) i ≡ before m i = ap (λ z. length (flat_map (λ r. r.1) z)) (take-take i j m h) in
     omega (arith, before_within (take j m) i, t)
 
-pub pairs_below : (m : Rows) → is_full m ≡ false → length (seconds m) < 4294967295
-pairs_below m h = grind arith
+-- as many second keys as the list has
+pub few_more : {u0 u1 u2 : Bool} {k0s l0s : List Bytes} {es fs : List ℕ} {k1s l1s vs us : List Bytes} (n : ℕ) → AreColumns u0 u1 u2 k0s es k1s vs →
+    AreColumns u0 u1 u2 l0s fs l1s us → length l1s ≤ length k1s + n →
+    length (seconds (rows_of l0s fs l1s us)) ≤ length (seconds (rows_of k0s es k1s vs)) + n
+few_more {k0s = k0s} {l0s = l0s} {es = es} {fs = fs} {k1s = k1s} {l1s = l1s} {vs = vs} {us = us} n before after h =
+    let old : length (seconds (rows_of k0s es k1s vs)) ≡ length k1s = sym (ap length before.flat.seconds_are) in
+    let new : length (seconds (rows_of l0s fs l1s us)) ≡ length l1s = sym (ap length after.flat.seconds_are) in
+    omega (arith, h, old, new)
 
 module _ {k0s : List Bytes} {es : List ℕ} {k1s vs : List Bytes} {m : Rows} (s : IsFlat k0s es k1s vs m) where
   pub rows_count : length k0s ≡ length m
@@ -91,32 +96,13 @@ module _ {k0s : List Bytes} {es : List ℕ} {k1s vs : List Bytes} {m : Rows} (s 
       rw (a, b, c, d) (rw (row_keys i h, values_in_row) (zip_parts (row_at m i)))
 
   -- where pairs are still counted, each end can be one more
-  pub ends_below : is_full m ≡ false → (k : ℕ) → k < length es → slice_index es k < 4294967295
-  ends_below room k h = omega (arith, end_is k (omega (arith, h, ends_count)), before_within m (suc k), length_pick (λ p. p.0) m, pairs_below m room)
+  pub ends_below : length (seconds m) < 4294967295 → (k : ℕ) → k < length es → slice_index es k < 4294967295
+  ends_below few k h = omega (arith, end_is k (omega (arith, h, ends_count)), before_within m (suc k), length_pick (λ p. p.0) m, few)
 
   -- from a row with a pair on, each end can be one less
   pub ends_some : (i : ℕ) → i < length m → 0 < length (row_at m i) → (k : ℕ) → i ≤ k → k < length es → 0 < slice_index es k
   ends_some i h some k a l = omega (arith, end_is k (omega (arith, l, ends_count)), before_suc m i h, before_mono m (suc i) (suc k) (omega arith))
 
--- what lists take is what those of the map take
-pub taken : (takes : List Bytes → ℕ → Bool) {xs ys : List Bytes} (n : ℕ) → xs ≡ ys → takes ys n ≡ true → takes xs n ≡ true
-taken takes n same h = ap (λ (zs : List Bytes). takes zs n) same ∙ h
-
 -- the lists of a map are its own
 pub own : (m : Rows) → IsFlat (firsts m) (ends m) (seconds m) (values m) m
 own m = record { firsts_are = refl; ends_are = refl; seconds_are = refl; values_are = refl }
-
--- after a try to give a pair another value
-module _ {k0s : List Bytes} {es : List ℕ} {k1s : List Bytes} {C : Type 0} (list : C → List Bytes) (old new : C) {m : Rows} where
-  pub value_rows : IsFlat k0s es k1s (list old) m → (i j : ℕ) → i < length m → j < length (row_at m i) → {at : ℕ} → at ≡ before m i + j → (v : Bytes) →
-      {A E : Type 0} →
-      (r : Result A E) → OnOk r (list new ≡ set (list old) at v) → OnOk r (rows_of k0s es k1s (list new) ≡ set_value_at m i (set_value_at (row_at m i) j v))
-  value_rows s i j h k {at} e v (Ok x) ok = view_of k0s es k1s (list new) _ (same_lists refl refl refl ok (value_set s i j at h e v k))
-  value_rows s i j h k e v (Err x) ok = tt
-
-  pub value_columns : {u0 u1 u2 : Bool} → AreColumns u0 u1 u2 k0s es k1s (list old) → IsFlat k0s es k1s (list old) m → (i j : ℕ) → i < length m →
-      j < length (row_at m i) → {at : ℕ} → at ≡ before m i + j →
-      (v : Bytes) → {A E : Type 0} → (r : Result A E) → OnOk r (list new ≡ set (list old) at v) → OnErr r (new ≡ old) →
-      AreColumns u0 u1 u2 k0s es k1s (list new)
-  value_columns c s i j h k {at} e v (Ok x) ok err = columns c.keys0 c.keys1 c.values (same_lists refl refl refl ok (value_set s i j at h e v k))
-  value_columns {u0} {u1} {u2} c s i j h k e v (Err x) ok err = subst (λ (z : C). AreColumns u0 u1 u2 k0s es k1s (list z)) (sym err) c

@@ -104,6 +104,16 @@ ends_old n [] i h one = absurd (omega arith)
 ends_old n (q ∷ m) zero h one = ends_moved 0 1 (n + length q.1) n (omega (arith, one)) m
 ends_old n (q ∷ m) (suc i) h one = ap (λ z. (n + length q.1) ∷ z) (ends_old (n + length q.1) m i (omega arith) one)
 
+-- as many as before
+pub shift_count : (a b i : ℕ) (xs : List ℕ) → length (shift_from a b i xs) ≡ length xs
+shift_count a b i xs = omega (
+  arith,
+  length-append (take i xs) (map (λ e. e + a - b) (drop i xs)),
+  length-map (drop i xs) (λ e. e + a - b),
+  length-append (take i xs) (drop i xs),
+  ap length (take-append-drop i xs),
+)
+
 -- ---- the four lists
 
 module _ {k0s : List Bytes} {es : List ℕ} {k1s vs : List Bytes} {m : Rows} (flat : IsFlat k0s es k1s vs m) (i : ℕ) where

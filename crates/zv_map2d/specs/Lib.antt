@@ -10,6 +10,8 @@ pub mod Keys
 pub mod Laws
 pub mod Locales
 pub mod Outcomes
+pub mod Places
 pub mod Refusals
+pub mod Room
 pub mod Rows
 pub mod Views

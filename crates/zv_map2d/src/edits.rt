@@ -1,97 +1,34 @@
 // Changes of a map's four vectors.
-ghost use Rattle.std.specs.Prelude.{◌≡◌, ◌+◌, ◌^◌, ◌<◌, ◌≤◌, ◌&&◌, false, true, [], ◌∷◌, length};
-ghost use Rattle.std.specs.Prelude.{IfOk, OnErr, OnOk, Some, None, option_map, set};
+ghost use Rattle.std.specs.Prelude.{◌≡◌, ◌+◌, ◌*◌, ◌^◌, ◌<◌, ◌≤◌, ◌&&◌, ℕ, false, true, [], ◌∷◌};
+ghost use Rattle.std.specs.Prelude.{IfOk, IfSome, IfErr, IsTrue, OnErr, OnOk, None, Some, is_ok};
+ghost use Rattle.std.specs.Prelude.{is_some, length, nat_lt};
 ghost use Rattle.zv_map.specs.Maps.{set_value_at};
+ghost use Rattle.zv_map.specs.Reserved.{IsTaken};
 ghost use Rattle.std.specs.List.{insert, remove};
-ghost use Rattle.zv_map2d.specs.Outcomes.{Changes, Dels, Inserts, Puts};
-ghost use Rattle.zv_map2d.specs.Fits.{IsTaken, rule_of};
-ghost use Rattle.zv_map2d.specs.Keys.{nth};
+ghost use Rattle.zv_map2d.specs.Outcomes.{Dels, Inserts, IsLeftBy, Puts};
+ghost use Rattle.zv_map2d.specs.Fits.{fits, rule_of};
+ghost use Rattle.zv_map2d.specs.Places.{IsPlace, del_at, find_at, fits_at, put_at};
 ghost use Rattle.zv_map2d.specs.Refusals.{RefusedUnless, is_full};
-ghost use Rattle.zv_map2d.specs.Rows.{IsWell, before, firsts, row_at, seconds, values};
+ghost use Rattle.zv_map2d.specs.Room.{CanGrowBy, HasRoomFor, IsOwned, IsSameMap, SpendsFor};
+ghost use Rattle.zv_map2d.specs.Rows.{IsWell, before, del, find, firsts, put, row_at, seconds};
+ghost use Rattle.zv_map2d.specs.Rows.{values};
 
 use crate::columns::Columns;
 use crate::error::Map2dError;
-use crate::joiner::{shifted_copy, with_end, without_end};
+use crate::joiner::shift;
+use crate::place::Place;
 use std::alloc::Global;
-use zv_map::{MapError, MutableZeroVecLike};
+use zv_map::{MutableZeroVecLike, TooLarge};
 use zv_ule::{NoMemory, ZvArg, ZvKind, ZvOrd, ZvOrdArg};
 
 /// The most pairs that a joiner can count.
 const MAX_PAIRS: usize = 4_294_967_295;
 
-/// Puts an element, which is taken, at a place of a list.
-fn put_in<'a, K: ZvKind, C: MutableZeroVecLike<'a, K>, Q: ZvArg<K>>(
-    list: &mut C,
-    alloc: Global,
-    index: usize,
-    value: &Q,
-) -> Result<(), NoMemory>
-    requires below { length (Q.bytes value.now) < 2 ^ 64 }
-    requires place { index ≤ length (C.list list.old) }
-    requires taken { IsTaken C.takes_insert (C.list list.old) (length (Q.bytes value.now)) }
-    ensures ok { OnOk result (C.list list.new
-        ≡ insert (C.list list.old) index (Q.bytes value.now)) }
-    ensures err { OnErr result (list.new ≡ list.old) }
+/// How many bytes so many elements take, of `len` bytes in sum and `field` more each.
+fn room_for(len: usize, field: usize, count: usize) -> Option<usize>
+    ensures { IfSome result (λ n. n ≡ len + field * count) }
 {
-    match list.zvl_insert(alloc, index, value) {
-        Ok(()) => Ok(()),
-        Err(MapError::Memory) => Err(NoMemory),
-        Err(MapError::TooLarge) => unreachable!(),
-    }
-}
-
-/// Puts an element in the place of another, which is given back.
-fn replace_in<'a, K: ZvKind, C: MutableZeroVecLike<'a, K>, Q: ZvArg<K>>(
-    list: &mut C,
-    alloc: Global,
-    index: usize,
-    value: &Q,
-) -> Result<Option<C::OwnedType>, Map2dError>
-    requires below { length (Q.bytes value.now) < 2 ^ 64 }
-    requires place { index < length (C.list list.old) }
-    ensures ok { OnOk result (C.list list.new ≡ set (C.list list.old) index (Q.bytes value.now)) }
-    ensures before { IfOk result (λ old.
-        option_map C.OwnedType.bytes old ≡ Some (nth (C.list list.old) index)) }
-    ensures err { OnErr result (list.new ≡ list.old) }
-    ensures refused { RefusedUnless
-        (C.takes_replace (C.list list.old) index (length (Q.bytes value.now))) false result }
-{
-    match list.zvl_replace(alloc, index, value) {
-        Ok(old) => Ok(Some(old)),
-        Err(MapError::TooLarge) => Err(Map2dError::TooLarge),
-        Err(MapError::Memory) => Err(Map2dError::Memory),
-    }
-}
-
-/// A copy of a list with an element, which is taken, at a place.
-fn with_element<'a, K: ZvKind, C: MutableZeroVecLike<'a, K> + Drop, Q: ZvArg<K>>(
-    list: &C,
-    alloc: Global,
-    index: usize,
-    value: &Q,
-) -> Result<C, NoMemory>
-    requires below { length (Q.bytes value.now) < 2 ^ 64 }
-    requires place { index ≤ length (C.list list.now) }
-    requires taken { IsTaken C.takes_insert (C.list list.now) (length (Q.bytes value.now)) }
-    ensures { IfOk result (λ c. C.list c ≡ insert (C.list list.now) index (Q.bytes value.now)) }
-{
-    let mut copy = list.zvl_clone(alloc)?;
-    put_in(&mut copy, alloc, index, value)?;
-    Ok(copy)
-}
-
-/// A copy of a list without the element at a place.
-fn without_element<'a, K: ZvKind, C: MutableZeroVecLike<'a, K> + Drop>(
-    list: &C,
-    alloc: Global,
-    index: usize,
-) -> Result<C, NoMemory>
-    requires { index < length (C.list list.now) }
-    ensures { IfOk result (λ c. C.list c ≡ remove (C.list list.now) index) }
-{
-    let mut copy = list.zvl_clone(alloc)?;
-    let _ = copy.zvl_remove(alloc, index)?;
-    Ok(copy)
+    len.checked_add(field.checked_mul(count)?)
 }
 
 impl<
@@ -103,11 +40,95 @@ impl<
     C1: MutableZeroVecLike<'a, K1> + Drop,
     D: MutableZeroVecLike<'a, V> + Drop,
 > Columns<'a, K0, K1, V, C0, C1, D> {
-    /// Whether no pair more can be counted.
-    fn is_full(&self) -> bool
-        ensures { result ≡ is_full self.now.rows }
+    // ---- room
+
+    /// Makes every vector own its bytes, with so many to spare.
+    pub(crate) fn reserve_bytes(
+        &mut self,
+        alloc: Global,
+        keys0: usize,
+        ends: usize,
+        keys1: usize,
+        values: usize,
+    ) -> Result<(), NoMemory>
+        ensures same { IsSameMap self.old self.new }
+        ensures ok { OnOk result (CanGrowBy keys0 ends keys1 values self.new) }
     {
-        self.len() >= MAX_PAIRS
+        self.keys0.zvl_reserve_bytes(alloc, keys0)?;
+        self.joiner.reserve_bytes(alloc, ends)?;
+        self.keys1.zvl_reserve_bytes(alloc, keys1)?;
+        self.values.zvl_reserve_bytes(alloc, values)
+    }
+
+    /// Makes every vector own its bytes, with room for so many pairs whose lengths aren't known.
+    pub(crate) fn reserve(&mut self, alloc: Global, additional: usize) -> Result<(), NoMemory>
+        ensures same { IsSameMap self.old self.new }
+    {
+        let keys0 = additional
+            .checked_mul(self.keys0.zvl_element_room())
+            .ok_or(NoMemory)?;
+        let ends = additional.checked_mul(4).ok_or(NoMemory)?;
+        let keys1 = additional
+            .checked_mul(self.keys1.zvl_element_room())
+            .ok_or(NoMemory)?;
+        let values = additional
+            .checked_mul(self.values.zvl_element_room())
+            .ok_or(NoMemory)?;
+        self.reserve_bytes(alloc, keys0, ends, keys1, values)
+    }
+
+    /// Makes room for so many puts, whose elements have these lengths in sum.
+    pub(crate) fn reserve_for(
+        &mut self,
+        alloc: Global,
+        keys0: usize,
+        keys1: usize,
+        values: usize,
+        puts: usize,
+    ) -> Result<(), Map2dError>
+        ensures same { IsSameMap self.old self.new }
+        ensures ok { OnOk result
+            (HasRoomFor C0.field C1.field D.field keys0 keys1 values puts self.new) }
+        ensures err { IfErr result (IsLeftBy self.old self.new) }
+        ensures refused { RefusedUnless true
+            (nat_lt 4294967295 (length (seconds self.old.rows) + puts)) result }
+    {
+        if self.len().saturating_add(puts) > MAX_PAIRS {
+            return Err(Map2dError::TooMany);
+        }
+        let keys0 = room_for(keys0, self.keys0.zvl_field(), puts).ok_or(NoMemory)?;
+        let ends = puts.checked_mul(4).ok_or(NoMemory)?;
+        let keys1 = room_for(keys1, self.keys1.zvl_field(), puts).ok_or(NoMemory)?;
+        let values = room_for(values, self.values.zvl_field(), puts).ok_or(NoMemory)?;
+        self.reserve_bytes(alloc, keys0, ends, keys1, values)?;
+        Ok(())
+    }
+
+    /// Makes every vector own its bytes.
+    pub(crate) fn make_owned(&mut self, alloc: Global) -> Result<(), NoMemory>
+        ensures same { IsSameMap self.old self.new }
+        ensures owned { OnOk result (IsOwned self.new) }
+    {
+        self.reserve_bytes(alloc, 0, 0, 0, 0)
+    }
+
+    // ---- what fits
+
+    /// Where the pair of keys stands, or would stand.
+    pub(crate) fn place<Q0: ZvOrdArg<K0>, Q1: ZvOrdArg<K1>>(&self, key0: &Q0, key1: &Q1) -> Place
+        requires well { IsWell K0.cmp K1.cmp self.now.rows }
+        requires key0 { length (Q0.bytes key0.now) < 2 ^ 64 }
+        requires key1 { length (Q1.bytes key1.now) < 2 ^ 64 }
+        ensures { IsPlace K0.cmp K1.cmp self.now.rows (Q0.bytes key0.now) (Q1.bytes key1.now)
+            result }
+    {
+        match self.row_place(key0) {
+            Ok(row) => match self.pair_place(row, key1) {
+                Ok(pair) => Place::Pair { row, pair },
+                Err(pair) => Place::InRow { row, pair },
+            },
+            Err(row) => Place::NewRow { row },
+        }
     }
 
     /// Whether a new pair's key and value are taken by their lists.
@@ -119,6 +140,215 @@ impl<
     {
         self.keys1.zvl_takes_insert(key1.arg_len()) && self.values.zvl_takes_insert(value.arg_len())
     }
+
+    /// Whether the value fits at the place of its keys.
+    pub(crate) fn takes<Q0: ZvOrdArg<K0>, Q1: ZvOrdArg<K1>, R: ZvArg<V>>(
+        &self,
+        place: Place,
+        key0: &Q0,
+        key1: &Q1,
+        value: &R,
+    ) -> bool
+        requires place { IsPlace K0.cmp K1.cmp self.now.rows (Q0.bytes key0.now)
+            (Q1.bytes key1.now) place }
+        requires key0 { length (Q0.bytes key0.now) < 2 ^ 64 }
+        requires key1 { length (Q1.bytes key1.now) < 2 ^ 64 }
+        requires value { length (R.bytes value.now) < 2 ^ 64 }
+        ensures usable { IsTrue K0.usable × IsTrue K1.usable × IsTrue V.usable }
+        ensures fits { result ≡ fits_at
+            (rule_of C0.takes_insert C1.takes_insert D.takes_insert D.takes_replace) self.now.rows
+            (Q0.bytes key0.now) (Q1.bytes key1.now) (R.bytes value.now) place }
+    {
+        match place {
+            Place::Pair { row, pair } => {
+                self.values
+                    .zvl_takes_replace(self.pair_start(row, pair), value.arg_len())
+            }
+            Place::InRow { row: _, pair: _ } => self.takes_pair(key1, value),
+            Place::NewRow { row: _ } => {
+                self.keys0.zvl_takes_insert(key0.arg_len()) && self.takes_pair(key1, value)
+            }
+        }
+    }
+
+    /// Whether the value fits.
+    pub(crate) fn would_take<Q0: ZvOrdArg<K0>, Q1: ZvOrdArg<K1>, R: ZvArg<V>>(
+        &self,
+        key0: &Q0,
+        key1: &Q1,
+        value: &R,
+    ) -> bool
+        requires well { IsWell K0.cmp K1.cmp self.now.rows }
+        requires key0 { length (Q0.bytes key0.now) < 2 ^ 64 }
+        requires key1 { length (Q1.bytes key1.now) < 2 ^ 64 }
+        requires value { length (R.bytes value.now) < 2 ^ 64 }
+        ensures { result ≡ fits
+            (rule_of C0.takes_insert C1.takes_insert D.takes_insert D.takes_replace)
+            K0.cmp K1.cmp self.now.rows
+            (Q0.bytes key0.now) (Q1.bytes key1.now) (R.bytes value.now) }
+    {
+        self.takes(self.place(key0, key1), key0, key1, value)
+    }
+
+    // ---- changes in the vectors' own memory
+
+    /// Gives a pair another value, which is taken.
+    fn set_value<R: ZvArg<V>>(&mut self, row: usize, pair: usize, value: &R)
+        requires row { row < length self.old.rows }
+        requires pair { pair < length (row_at self.old.rows row) }
+        requires value { length (R.bytes value.now) < 2 ^ 64 }
+        requires taken { IsTaken (D.takes_replace (values self.old.rows)
+            (before self.old.rows row + pair) (length (R.bytes value.now))) }
+        requires room { HasRoomFor C0.field C1.field D.field
+            0 0 (length (R.bytes value.now)) 1 self.old }
+        ensures rows { self.new.rows ≡ set_value_at self.old.rows row
+            (set_value_at (row_at self.old.rows row) pair (R.bytes value.now)) }
+        ensures spends { SpendsFor C0.field C1.field D.field
+            0 0 (length (R.bytes value.now)) 1 self.old self.new }
+    {
+        let at = self.pair_start(row, pair);
+        self.values.zvl_replace_reserved(at, value);
+    }
+
+    /// Puts a new pair, which is taken, into a row.
+    fn add_pair<Q1: ZvArg<K1>, R: ZvArg<V>>(
+        &mut self,
+        row: usize,
+        pair: usize,
+        key1: &Q1,
+        value: &R,
+    )
+        requires row { row < length self.old.rows }
+        requires pair { pair ≤ length (row_at self.old.rows row) }
+        requires key1 { length (Q1.bytes key1.now) < 2 ^ 64 }
+        requires value { length (R.bytes value.now) < 2 ^ 64 }
+        requires taken1 { IsTaken (C1.takes_insert (seconds self.old.rows)
+            (length (Q1.bytes key1.now))) }
+        requires taken { IsTaken (D.takes_insert (values self.old.rows)
+            (length (R.bytes value.now))) }
+        requires room { HasRoomFor C0.field C1.field D.field
+            0 (length (Q1.bytes key1.now)) (length (R.bytes value.now)) 1 self.old }
+        ensures rows { self.new.rows ≡ set_value_at self.old.rows row
+            (insert (row_at self.old.rows row) pair (Q1.bytes key1.now, R.bytes value.now)) }
+        ensures spends { SpendsFor C0.field C1.field D.field
+            0 (length (Q1.bytes key1.now)) (length (R.bytes value.now)) 1 self.old self.new }
+    {
+        let at = self.pair_start(row, pair);
+        self.keys1.zvl_insert_reserved(at, key1);
+        self.values.zvl_insert_reserved(at, value);
+        shift(&mut self.joiner, row, 1, 0);
+    }
+
+    /// Puts a new row of one pair, which is taken, into the map.
+    fn add_row<Q0: ZvArg<K0>, Q1: ZvArg<K1>, R: ZvArg<V>>(
+        &mut self,
+        row: usize,
+        key0: &Q0,
+        key1: &Q1,
+        value: &R,
+    )
+        requires row { row ≤ length self.old.rows }
+        requires key0 { length (Q0.bytes key0.now) < 2 ^ 64 }
+        requires key1 { length (Q1.bytes key1.now) < 2 ^ 64 }
+        requires value { length (R.bytes value.now) < 2 ^ 64 }
+        requires taken0 { IsTaken (C0.takes_insert (firsts self.old.rows)
+            (length (Q0.bytes key0.now))) }
+        requires taken1 { IsTaken (C1.takes_insert (seconds self.old.rows)
+            (length (Q1.bytes key1.now))) }
+        requires taken { IsTaken (D.takes_insert (values self.old.rows)
+            (length (R.bytes value.now))) }
+        requires room { HasRoomFor C0.field C1.field D.field (length (Q0.bytes key0.now))
+            (length (Q1.bytes key1.now)) (length (R.bytes value.now)) 1 self.old }
+        ensures rows { self.new.rows ≡ insert self.old.rows row
+            (Q0.bytes key0.now, (Q1.bytes key1.now, R.bytes value.now) ∷ []) }
+        ensures spends { SpendsFor C0.field C1.field D.field (length (Q0.bytes key0.now))
+            (length (Q1.bytes key1.now)) (length (R.bytes value.now)) 1 self.old self.new }
+    {
+        let at = self.row_start(row);
+        self.keys0.zvl_insert_reserved(row, key0);
+        self.keys1.zvl_insert_reserved(at, key1);
+        self.values.zvl_insert_reserved(at, value);
+        shift(&mut self.joiner, row, 1, 0);
+        self.joiner.insert_owned(row, at as u32 + 1);
+    }
+
+    /// Puts a value, which fits, at the place of its keys.
+    fn put_at<Q0: ZvOrdArg<K0>, Q1: ZvOrdArg<K1>, R: ZvArg<V>>(
+        &mut self,
+        place: Place,
+        key0: &Q0,
+        key1: &Q1,
+        value: &R,
+    )
+        requires place { IsPlace K0.cmp K1.cmp self.old.rows (Q0.bytes key0.now)
+            (Q1.bytes key1.now) place }
+        requires key0 { length (Q0.bytes key0.now) < 2 ^ 64 }
+        requires key1 { length (Q1.bytes key1.now) < 2 ^ 64 }
+        requires value { length (R.bytes value.now) < 2 ^ 64 }
+        requires taken { IsTaken (fits_at
+            (rule_of C0.takes_insert C1.takes_insert D.takes_insert D.takes_replace) self.old.rows
+            (Q0.bytes key0.now) (Q1.bytes key1.now) (R.bytes value.now) place) }
+        requires room { HasRoomFor C0.field C1.field D.field (length (Q0.bytes key0.now))
+            (length (Q1.bytes key1.now)) (length (R.bytes value.now)) 1 self.old }
+        ensures rows { self.new.rows ≡ put_at self.old.rows (Q0.bytes key0.now)
+            (Q1.bytes key1.now) (R.bytes value.now) place }
+        ensures spends { SpendsFor C0.field C1.field D.field (length (Q0.bytes key0.now))
+            (length (Q1.bytes key1.now)) (length (R.bytes value.now)) 1 self.old self.new }
+    {
+        match place {
+            Place::Pair { row, pair } => self.set_value(row, pair, value),
+            Place::InRow { row, pair } => self.add_pair(row, pair, key1, value),
+            Place::NewRow { row } => self.add_row(row, key0, key1, value),
+        }
+    }
+
+    /// Takes a pair out of a row that has others.
+    fn remove_pair(&mut self, row: usize, pair: usize)
+        requires row { row < length self.old.rows }
+        requires pair { pair < length (row_at self.old.rows row) }
+        requires owned { IsOwned self.old }
+        ensures rows { self.new.rows ≡
+            set_value_at self.old.rows row (remove (row_at self.old.rows row) pair) }
+        ensures spends { SpendsFor C0.field C1.field D.field 0 0 0 0 self.old self.new }
+    {
+        let at = self.pair_start(row, pair);
+        self.keys1.zvl_discard(at);
+        self.values.zvl_discard(at);
+        shift(&mut self.joiner, row, 0, 1);
+    }
+
+    /// Takes a row of one pair out.
+    fn remove_row(&mut self, row: usize)
+        requires row { row < length self.old.rows }
+        requires single { length (row_at self.old.rows row) ≡ 1 }
+        requires owned { IsOwned self.old }
+        ensures rows { self.new.rows ≡ remove self.old.rows row }
+        ensures spends { SpendsFor C0.field C1.field D.field 0 0 0 0 self.old self.new }
+    {
+        let at = self.row_start(row);
+        self.keys0.zvl_discard(row);
+        self.keys1.zvl_discard(at);
+        self.values.zvl_discard(at);
+        shift(&mut self.joiner, row, 0, 1);
+        let _ = self.joiner.remove_owned(row);
+    }
+
+    /// Takes a pair out, with its row where that was its only pair.
+    fn remove_at(&mut self, row: usize, pair: usize)
+        requires row { row < length self.old.rows }
+        requires pair { pair < length (row_at self.old.rows row) }
+        requires owned { IsOwned self.old }
+        ensures rows { self.new.rows ≡ del_at self.old.rows (Place.Pair row pair) }
+        ensures spends { SpendsFor C0.field C1.field D.field 0 0 0 0 self.old self.new }
+    {
+        if self.row_len(row) == 1 {
+            self.remove_row(row);
+        } else {
+            self.remove_pair(row, pair);
+        }
+    }
+
+    // ---- puts and removals
 
     /// Gives a pair another value, and gives back the one that it had.
     fn replace_value<R: ZvArg<V>>(
@@ -134,182 +364,62 @@ impl<
         ensures { Inserts D.OwnedType.bytes self.old self.new
             (set_value_at self.old.rows row
             (set_value_at (row_at self.old.rows row) pair (R.bytes value.now)))
-            (Some (nth (values self.old.rows) (before self.old.rows row + pair)))
+            (find_at self.old.rows (Place.Pair row pair))
             (D.takes_replace (values self.old.rows) (before self.old.rows row + pair)
             (length (R.bytes value.now))) false result }
     {
         let at = self.pair_start(row, pair);
-        replace_in(&mut self.values, alloc, at, value)
+        let old = self.values.zvl_replace(alloc, at, value)?;
+        Ok(Some(old))
     }
 
-    /// Puts a new pair, which is taken, into a row.
-    fn add_pair<Q1: ZvArg<K1>, R: ZvArg<V>>(
-        &mut self,
+    /// A copy of a pair's value.
+    fn value_to_owned(
+        &self,
         alloc: Global,
         row: usize,
         pair: usize,
-        key1: &Q1,
-        value: &R,
-    ) -> Result<(), NoMemory>
-        requires row { row < length self.old.rows }
-        requires pair { pair ≤ length (row_at self.old.rows row) }
-        requires key1 { length (Q1.bytes key1.now) < 2 ^ 64 }
-        requires value { length (R.bytes value.now) < 2 ^ 64 }
-        requires taken1 { C1.takes_insert (seconds self.old.rows) (length (Q1.bytes key1.now))
-            ≡ true }
-        requires taken { D.takes_insert (values self.old.rows) (length (R.bytes value.now)) ≡ true }
-        requires room { is_full self.old.rows ≡ false }
-        ensures rows { OnOk result (self.new.rows ≡ set_value_at self.old.rows row
-            (insert (row_at self.old.rows row) pair (Q1.bytes key1.now, R.bytes value.now))) }
-        ensures err { OnErr result (self.new ≡ self.old) }
+    ) -> Result<D::OwnedType, NoMemory>
+        requires row { row < length self.now.rows }
+        requires pair { pair < length (row_at self.now.rows row) }
+        ensures { IfOk result (λ old. Some (D.OwnedType.bytes old)
+            ≡ find_at self.now.rows (Place.Pair row pair)) }
     {
-        let at = self.pair_start(row, pair);
-        let keys1 = with_element(&self.keys1, alloc, at, key1)?;
-        let joiner = shifted_copy(&self.joiner, alloc, row, 1, 0)?;
-        put_in(&mut self.values, alloc, at, value)?;
-        self.keys1 = keys1;
-        self.joiner = joiner;
-        Ok(())
+        self.values.zvl_get_owned(alloc, self.pair_start(row, pair))
     }
 
-    /// Puts a new row of one pair, which is taken, into the map.
-    fn add_row<Q0: ZvArg<K0>, Q1: ZvArg<K1>, R: ZvArg<V>>(
+    /// Puts a value for a new pair of keys at its place.
+    fn insert_at<Q0: ZvOrdArg<K0>, Q1: ZvOrdArg<K1>, R: ZvArg<V>>(
         &mut self,
         alloc: Global,
-        row: usize,
-        key0: &Q0,
-        key1: &Q1,
-        value: &R,
-    ) -> Result<(), NoMemory>
-        requires row { row ≤ length self.old.rows }
-        requires key0 { length (Q0.bytes key0.now) < 2 ^ 64 }
-        requires key1 { length (Q1.bytes key1.now) < 2 ^ 64 }
-        requires value { length (R.bytes value.now) < 2 ^ 64 }
-        requires taken0 { C0.takes_insert (firsts self.old.rows) (length (Q0.bytes key0.now))
-            ≡ true }
-        requires taken1 { C1.takes_insert (seconds self.old.rows) (length (Q1.bytes key1.now))
-            ≡ true }
-        requires taken { D.takes_insert (values self.old.rows) (length (R.bytes value.now)) ≡ true }
-        requires room { is_full self.old.rows ≡ false }
-        ensures rows { OnOk result (self.new.rows ≡ insert self.old.rows row
-            (Q0.bytes key0.now, (Q1.bytes key1.now, R.bytes value.now) ∷ [])) }
-        ensures err { OnErr result (self.new ≡ self.old) }
-    {
-        let at = self.row_start(row);
-        let keys0 = with_element(&self.keys0, alloc, row, key0)?;
-        let keys1 = with_element(&self.keys1, alloc, at, key1)?;
-        let joiner = with_end(&self.joiner, alloc, row, at as u32 + 1)?;
-        put_in(&mut self.values, alloc, at, value)?;
-        self.keys0 = keys0;
-        self.keys1 = keys1;
-        self.joiner = joiner;
-        Ok(())
-    }
-
-    /// Puts a new pair into a row.
-    fn insert_pair<Q1: ZvArg<K1>, R: ZvArg<V>>(
-        &mut self,
-        alloc: Global,
-        row: usize,
-        pair: usize,
-        key1: &Q1,
-        value: &R,
-    ) -> Result<Option<D::OwnedType>, Map2dError>
-        requires row { row < length self.old.rows }
-        requires pair { pair ≤ length (row_at self.old.rows row) }
-        requires key1 { length (Q1.bytes key1.now) < 2 ^ 64 }
-        requires value { length (R.bytes value.now) < 2 ^ 64 }
-        ensures { Inserts D.OwnedType.bytes self.old self.new
-            (set_value_at self.old.rows row
-            (insert (row_at self.old.rows row) pair (Q1.bytes key1.now, R.bytes value.now)))
-            None
-            (C1.takes_insert (seconds self.old.rows) (length (Q1.bytes key1.now))
-            && D.takes_insert (values self.old.rows) (length (R.bytes value.now)))
-            (is_full self.old.rows) result }
-    {
-        if !self.takes_pair(key1, value) {
-            return Err(Map2dError::TooLarge);
-        }
-        if self.is_full() {
-            return Err(Map2dError::TooMany);
-        }
-        self.add_pair(alloc, row, pair, key1, value)?;
-        Ok(None)
-    }
-
-    /// Puts a new row of one pair into the map.
-    fn insert_row<Q0: ZvArg<K0>, Q1: ZvArg<K1>, R: ZvArg<V>>(
-        &mut self,
-        alloc: Global,
-        row: usize,
+        place: Place,
         key0: &Q0,
         key1: &Q1,
         value: &R,
     ) -> Result<Option<D::OwnedType>, Map2dError>
-        requires row { row ≤ length self.old.rows }
+        requires place { IsPlace K0.cmp K1.cmp self.old.rows (Q0.bytes key0.now)
+            (Q1.bytes key1.now) place }
+        requires new { find_at self.old.rows place ≡ None }
         requires key0 { length (Q0.bytes key0.now) < 2 ^ 64 }
         requires key1 { length (Q1.bytes key1.now) < 2 ^ 64 }
         requires value { length (R.bytes value.now) < 2 ^ 64 }
         ensures { Inserts D.OwnedType.bytes self.old self.new
-            (insert self.old.rows row
-            (Q0.bytes key0.now, (Q1.bytes key1.now, R.bytes value.now) ∷ []))
-            None
-            (C0.takes_insert (firsts self.old.rows) (length (Q0.bytes key0.now))
-            && (C1.takes_insert (seconds self.old.rows) (length (Q1.bytes key1.now))
-            && D.takes_insert (values self.old.rows) (length (R.bytes value.now))))
+            (put_at self.old.rows (Q0.bytes key0.now) (Q1.bytes key1.now) (R.bytes value.now)
+            place) None
+            (fits_at (rule_of C0.takes_insert C1.takes_insert D.takes_insert D.takes_replace)
+            self.old.rows (Q0.bytes key0.now) (Q1.bytes key1.now) (R.bytes value.now) place)
             (is_full self.old.rows) result }
     {
-        if !self.keys0.zvl_takes_insert(key0.arg_len()) || !self.takes_pair(key1, value) {
+        if !self.takes(place, key0, key1, value) {
             return Err(Map2dError::TooLarge);
         }
-        if self.is_full() {
-            return Err(Map2dError::TooMany);
-        }
-        self.add_row(alloc, row, key0, key1, value)?;
+        self.reserve_for(alloc, key0.arg_len(), key1.arg_len(), value.arg_len(), 1)?;
+        self.put_at(place, key0, key1, value);
         Ok(None)
-    }
-
-    /// Takes a pair out of a row, and gives back its value.
-    fn remove_pair(
-        &mut self,
-        alloc: Global,
-        row: usize,
-        pair: usize,
-    ) -> Result<Option<D::OwnedType>, NoMemory>
-        requires row { row < length self.old.rows }
-        requires pair { pair < length (row_at self.old.rows row) }
-        ensures { Changes D.OwnedType.bytes self.old self.new
-            (set_value_at self.old.rows row (remove (row_at self.old.rows row) pair))
-            (Some (nth (values self.old.rows) (before self.old.rows row + pair))) result }
-    {
-        let at = self.pair_start(row, pair);
-        let keys1 = without_element(&self.keys1, alloc, at)?;
-        let joiner = shifted_copy(&self.joiner, alloc, row, 0, 1)?;
-        let old = self.values.zvl_remove(alloc, at)?;
-        self.keys1 = keys1;
-        self.joiner = joiner;
-        Ok(Some(old))
-    }
-
-    /// Takes a row of one pair out, and gives back the pair's value.
-    fn remove_row(&mut self, alloc: Global, row: usize) -> Result<Option<D::OwnedType>, NoMemory>
-        requires row { row < length self.old.rows }
-        requires single { length (row_at self.old.rows row) ≡ 1 }
-        ensures { Changes D.OwnedType.bytes self.old self.new (remove self.old.rows row)
-            (Some (nth (values self.old.rows) (before self.old.rows row))) result }
-    {
-        let at = self.row_start(row);
-        let keys0 = without_element(&self.keys0, alloc, row)?;
-        let keys1 = without_element(&self.keys1, alloc, at)?;
-        let joiner = without_end(&self.joiner, alloc, row)?;
-        let old = self.values.zvl_remove(alloc, at)?;
-        self.keys0 = keys0;
-        self.keys1 = keys1;
-        self.joiner = joiner;
-        Ok(Some(old))
     }
 
     /// Gives a pair of keys a value, and gives back the value that it had.
+    #[tactic(auto, using(crate::proofs::Places::nothing_there))]
     pub(crate) fn insert<Q0: ZvOrdArg<K0>, Q1: ZvOrdArg<K1>, R: ZvArg<V>>(
         &mut self,
         alloc: Global,
@@ -326,13 +436,26 @@ impl<
             K0.cmp K1.cmp self.old self.new
             (Q0.bytes key0.now) (Q1.bytes key1.now) (R.bytes value.now) result }
     {
-        match self.row_place(key0) {
-            Ok(row) => match self.pair_place(row, key1) {
-                Ok(pair) => self.replace_value(alloc, row, pair, value),
-                Err(pair) => self.insert_pair(alloc, row, pair, key1, value),
-            },
-            Err(row) => self.insert_row(alloc, row, key0, key1, value),
+        let place = self.place(key0, key1);
+        if let Place::Pair { row, pair } = place {
+            return self.replace_value(alloc, row, pair, value);
         }
+        self.insert_at(alloc, place, key0, key1, value)
+    }
+
+    /// Takes a pair out, with its row where that was its only pair, and gives back its value.
+    fn take_out(&mut self, alloc: Global, row: usize, pair: usize) -> Result<D::OwnedType, NoMemory>
+        requires row { row < length self.old.rows }
+        requires pair { pair < length (row_at self.old.rows row) }
+        ensures rows { OnOk result (self.new.rows ≡ del_at self.old.rows (Place.Pair row pair)) }
+        ensures before { IfOk result (λ old. Some (D.OwnedType.bytes old)
+            ≡ find_at self.old.rows (Place.Pair row pair)) }
+        ensures err { OnErr result (IsSameMap self.old self.new) }
+    {
+        let old = self.value_to_owned(alloc, row, pair)?;
+        self.make_owned(alloc)?;
+        self.remove_at(row, pair);
+        Ok(old)
     }
 
     /// Takes a pair of keys out, with its row where that was its only pair, and gives back the
@@ -349,15 +472,67 @@ impl<
         ensures { Dels D.OwnedType.bytes K0.cmp K1.cmp self.old self.new
             (Q0.bytes key0.now) (Q1.bytes key1.now) result }
     {
-        let Ok(row) = self.row_place(key0) else {
+        let Place::Pair { row, pair } = self.place(key0, key1) else {
             return Ok(None);
         };
-        let Ok(pair) = self.pair_place(row, key1) else {
-            return Ok(None);
-        };
-        if self.row_len(row) == 1 {
-            return self.remove_row(alloc, row);
+        let old = self.take_out(alloc, row, pair)?;
+        Ok(Some(old))
+    }
+
+    /// Puts a value that the room covers for a pair of keys, and says whether the pair was there.
+    pub(crate) fn put_reserved<Q0: ZvOrdArg<K0>, Q1: ZvOrdArg<K1>, R: ZvArg<V>>(
+        &mut self,
+        key0: &Q0,
+        key1: &Q1,
+        value: &R,
+    ) -> Result<bool, TooLarge>
+        requires well { IsWell K0.cmp K1.cmp self.old.rows }
+        requires key0 { length (Q0.bytes key0.now) < 2 ^ 64 }
+        requires key1 { length (Q1.bytes key1.now) < 2 ^ 64 }
+        requires value { length (R.bytes value.now) < 2 ^ 64 }
+        requires room { HasRoomFor C0.field C1.field D.field (length (Q0.bytes key0.now))
+            (length (Q1.bytes key1.now)) (length (R.bytes value.now)) 1 self.old }
+        ensures rows { OnOk result (self.new.rows ≡ put K0.cmp K1.cmp self.old.rows
+            (Q0.bytes key0.now) (Q1.bytes key1.now) (R.bytes value.now)) }
+        ensures found { IfOk result (λ found. found ≡ is_some (find K0.cmp K1.cmp self.old.rows
+            (Q0.bytes key0.now) (Q1.bytes key1.now))) }
+        ensures err { OnErr result (self.new ≡ self.old) }
+        ensures refused { is_ok result ≡ fits
+            (rule_of C0.takes_insert C1.takes_insert D.takes_insert D.takes_replace)
+            K0.cmp K1.cmp self.old.rows
+            (Q0.bytes key0.now) (Q1.bytes key1.now) (R.bytes value.now) }
+        ensures spends { SpendsFor C0.field C1.field D.field (length (Q0.bytes key0.now))
+            (length (Q1.bytes key1.now)) (length (R.bytes value.now)) 1 self.old self.new }
+    {
+        let place = self.place(key0, key1);
+        if !self.takes(place, key0, key1, value) {
+            return Err(TooLarge);
         }
-        self.remove_pair(alloc, row, pair)
+        self.put_at(place, key0, key1, value);
+        Ok(place.is_pair())
+    }
+
+    /// Takes a pair of keys out, with its row where that was its only pair, and says whether it was
+    /// there.
+    pub(crate) fn discard<Q0: ZvOrdArg<K0>, Q1: ZvOrdArg<K1>>(
+        &mut self,
+        key0: &Q0,
+        key1: &Q1,
+    ) -> bool
+        requires well { IsWell K0.cmp K1.cmp self.old.rows }
+        requires key0 { length (Q0.bytes key0.now) < 2 ^ 64 }
+        requires key1 { length (Q1.bytes key1.now) < 2 ^ 64 }
+        requires owned { IsOwned self.old }
+        ensures rows { self.new.rows
+            ≡ del K0.cmp K1.cmp self.old.rows (Q0.bytes key0.now) (Q1.bytes key1.now) }
+        ensures found { result ≡ is_some (find K0.cmp K1.cmp self.old.rows
+            (Q0.bytes key0.now) (Q1.bytes key1.now)) }
+        ensures spends { SpendsFor C0.field C1.field D.field 0 0 0 0 self.old self.new }
+    {
+        let Place::Pair { row, pair } = self.place(key0, key1) else {
+            return false;
+        };
+        self.remove_at(row, pair);
+        true
     }
 }

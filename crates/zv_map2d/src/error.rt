@@ -1,6 +1,7 @@
 // Why an image or a change is refused.
 
 use thiserror::Error;
+use zv_map::MapError;
 use zv_ule::{NoMemory, UleError};
 
 /// Why an image is no map, or why an edit of it fails.
@@ -61,5 +62,19 @@ impl From<NoMemory> for Map2dError {
 
     fn from(_error: NoMemory) -> Map2dError {
         Map2dError::Memory
+    }
+}
+
+impl From<MapError> for Map2dError {
+    ghost use Rattle.std.specs.Prelude.{◌≡◌};
+    ghost use Rattle.zv_map2d.specs.Refusals.{refusal_of};
+
+    ghost from_gives = { λ e m. m ≡ refusal_of e };
+
+    fn from(error: MapError) -> Map2dError {
+        match error {
+            MapError::TooLarge => Map2dError::TooLarge,
+            MapError::Memory => Map2dError::Memory,
+        }
     }
 }

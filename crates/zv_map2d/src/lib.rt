@@ -19,6 +19,7 @@ pub mod map;
 mod order;
 mod parse;
 pub mod parts;
+mod place;
 
 pub use cursor::{Iter1, ZeroMap2dCursor};
 pub use error::{EditError, Map2dError};

@@ -1,13 +1,15 @@
 // A map in two levels.
-ghost use Rattle.std.specs.Prelude.{◌≡◌, ℕ, ◌==◌, ◌^◌, ◌<◌, ◌&&◌, [], length, IsTrue};
-ghost use Rattle.std.specs.Prelude.{IfOk, OnErr, OnOk, is_none, option_map};
+ghost use Rattle.std.specs.Prelude.{◌≡◌, ℕ, ◌==◌, ◌+◌, ◌^◌, ◌<◌, ◌&&◌, [], length, IsTrue, true};
+ghost use Rattle.std.specs.Prelude.{IfOk, IfErr, OnErr, OnOk, is_none, is_ok, is_some};
+ghost use Rattle.std.specs.Prelude.{nat_lt, option_map};
 ghost use Rattle.std.specs.List.{flat_map};
 ghost use Rattle.std.specs.Result.{MatchResult};
 ghost use Rattle.zv_map.specs.Maps.{IsAt, keys_of};
 ghost use Rattle.zv_ule.specs.Bytes.{le};
 ghost use Rattle.zv_ule.specs.Search.{IsGap, compared};
 ghost use Rattle.zv_ule.specs.Views.{element_of};
-ghost use Rattle.zv_map2d.specs.Fits.{Rule, fits};
+ghost use Rattle.zv_map2d.specs.Fits.{fits, rule_of};
+ghost use Rattle.zv_map2d.specs.Room.{HasRoomFor, IsOwned, IsSameMap, SpendsFor};
 ghost use Rattle.zv_map2d.specs.Refusals.{RefusedUnless, is_full};
 ghost use Rattle.zv_map2d.specs.Rows.{IsWell, del, ends, find, firsts, put, row_at, seconds};
 ghost use Rattle.zv_map2d.specs.Rows.{values};
@@ -20,7 +22,7 @@ use crate::parts::Parts;
 use std::alloc::Global;
 use std::marker::{Model, PhantomData};
 use zv_fixed::ZeroVec;
-use zv_map::{MutableZeroVecLike, ZeroMapKV, ZvContainer};
+use zv_map::{MutableZeroVecLike, TooLarge, ZeroMapKV, ZvContainer};
 use zv_ule::{NoMemory, VarRef, ZvArg, ZvKind, ZvOrd, ZvOrdArg};
 
 /// A map in two levels, over the containers of its first keys, its second keys and its values.
@@ -246,16 +248,140 @@ impl<
     C1: MutableZeroVecLike<'a, K1> + Drop,
     D: MutableZeroVecLike<'a, V> + Drop,
 > Map2dOver<'a, K0, K1, V, C0, C1, D> {
+    /// The map of no pairs, with room for so many whose lengths aren't known.
+    pub fn with_capacity(alloc: Global, capacity: usize) -> Result<Self, NoMemory>
+        requires keys0 { IsTrue K0.usable }
+        requires keys1 { IsTrue K1.usable }
+        requires values { IsTrue V.usable }
+        ensures rows { IfOk result (λ m. m.rows ≡ []) }
+        ensures parts { IfOk result (λ m. parts_of m ≡ no_bytes) }
+    {
+        let mut map = Self::new();
+        map.reserve(alloc, capacity)?;
+        Ok(map)
+    }
+
+    /// Makes every vector own its bytes, with room for so many pairs more whose lengths aren't
+    /// known: four bytes and the width of a field for an element of any length.
+    pub fn reserve(&mut self, alloc: Global, additional: usize) -> Result<(), NoMemory>
+        ensures { IsSameMap self.old self.new }
+    {
+        self.columns.reserve(alloc, additional)
+    }
+
+    /// Makes every vector own its bytes, so that [`discard`](Self::discard) may be called.
+    pub fn make_owned(&mut self, alloc: Global) -> Result<(), NoMemory>
+        ensures same { IsSameMap self.old self.new }
+        ensures owned { OnOk result (IsOwned self.new) }
+    {
+        self.columns.make_owned(alloc)
+    }
+
+    /// Makes room for so many puts, whose first keys, second keys and values have these lengths in
+    /// sum. Each of them may then be made by [`put_reserved`](Self::put_reserved), which takes no
+    /// memory.
+    ///
+    /// # Errors
+    /// `TooMany` where the pairs and the puts together are more than 2^32 - 1; else `Memory`, and
+    /// never `TooLarge`. The map is the same, though its vectors may have become its own.
+    pub fn reserve_for(
+        &mut self,
+        alloc: Global,
+        keys0: usize,
+        keys1: usize,
+        values: usize,
+        puts: usize,
+    ) -> Result<(), Map2dError>
+        ensures same { IsSameMap self.old self.new }
+        ensures ok { OnOk result
+            (HasRoomFor C0.field C1.field D.field keys0 keys1 values puts self.new) }
+        ensures unchanged { IfErr result (λ e. (e ≡ Map2dError.Memory → ⊥) → self.new ≡ self.old) }
+        ensures refused { RefusedUnless true
+            (nat_lt 4294967295 (length (seconds self.old.rows) + puts)) result }
+    {
+        self.columns.reserve_for(alloc, keys0, keys1, values, puts)
+    }
+
+    /// Whether a value fits: in place of the one that the pair has, or with the keys that are not
+    /// there yet, by the size rules of the vectors.
+    pub fn would_take<Q0: ZvOrdArg<K0>, Q1: ZvOrdArg<K1>, R: ZvArg<V>>(
+        &self,
+        key0: &Q0,
+        key1: &Q1,
+        value: &R,
+    ) -> bool
+        requires key0 { length (Q0.bytes key0.now) < 2 ^ 64 }
+        requires key1 { length (Q1.bytes key1.now) < 2 ^ 64 }
+        requires value { length (R.bytes value.now) < 2 ^ 64 }
+        ensures { result ≡ fits
+            (rule_of C0.takes_insert C1.takes_insert D.takes_insert D.takes_replace)
+            K0.cmp K1.cmp self.now.rows
+            (Q0.bytes key0.now) (Q1.bytes key1.now) (R.bytes value.now) }
+    {
+        self.columns.would_take(key0, key1, value)
+    }
+
+    /// Gives a pair of keys a value, in room that was made for it, and says whether the pair was
+    /// there.
+    ///
+    /// # Errors
+    /// [`TooLarge`] where the value doesn't fit. The map is unchanged then.
+    ///
+    /// # Cost
+    /// Two searches. Of each vector that changes it moves what stands behind the place; it takes no
+    /// memory.
+    pub fn put_reserved<Q0: ZvOrdArg<K0>, Q1: ZvOrdArg<K1>, R: ZvArg<V>>(
+        &mut self,
+        key0: &Q0,
+        key1: &Q1,
+        value: &R,
+    ) -> Result<bool, TooLarge>
+        requires key0 { length (Q0.bytes key0.now) < 2 ^ 64 }
+        requires key1 { length (Q1.bytes key1.now) < 2 ^ 64 }
+        requires value { length (R.bytes value.now) < 2 ^ 64 }
+        requires room { HasRoomFor C0.field C1.field D.field (length (Q0.bytes key0.now))
+            (length (Q1.bytes key1.now)) (length (R.bytes value.now)) 1 self.old }
+        ensures rows { OnOk result (self.new.rows ≡ put K0.cmp K1.cmp self.old.rows
+            (Q0.bytes key0.now) (Q1.bytes key1.now) (R.bytes value.now)) }
+        ensures found { IfOk result (λ found. found ≡ is_some (find K0.cmp K1.cmp self.old.rows
+            (Q0.bytes key0.now) (Q1.bytes key1.now))) }
+        ensures err { OnErr result (self.new ≡ self.old) }
+        ensures refused { is_ok result ≡ fits
+            (rule_of C0.takes_insert C1.takes_insert D.takes_insert D.takes_replace)
+            K0.cmp K1.cmp self.old.rows
+            (Q0.bytes key0.now) (Q1.bytes key1.now) (R.bytes value.now) }
+        ensures spends { SpendsFor C0.field C1.field D.field (length (Q0.bytes key0.now))
+            (length (Q1.bytes key1.now)) (length (R.bytes value.now)) 1 self.old self.new }
+    {
+        self.columns.put_reserved(key0, key1, value)
+    }
+
+    /// Takes a pair of keys out, with its row where that was its only pair, and says whether it was
+    /// there. It takes no memory, and lowers no vector's room.
+    pub fn discard<Q0: ZvOrdArg<K0>, Q1: ZvOrdArg<K1>>(&mut self, key0: &Q0, key1: &Q1) -> bool
+        requires key0 { length (Q0.bytes key0.now) < 2 ^ 64 }
+        requires key1 { length (Q1.bytes key1.now) < 2 ^ 64 }
+        requires owned { IsOwned self.old }
+        ensures rows { self.new.rows
+            ≡ del K0.cmp K1.cmp self.old.rows (Q0.bytes key0.now) (Q1.bytes key1.now) }
+        ensures found { result ≡ is_some (find K0.cmp K1.cmp self.old.rows
+            (Q0.bytes key0.now) (Q1.bytes key1.now)) }
+        ensures spends { SpendsFor C0.field C1.field D.field 0 0 0 0 self.old self.new }
+    {
+        self.columns.discard(key0, key1)
+    }
+
     /// Gives a pair of keys a value, and gives back the value that it had.
     ///
     /// # Errors
     /// `TooLarge` where the value, or for a new pair a key that is not there yet, is refused by the
     /// size rule of its list; then `TooMany` where a new pair meets a map of 2^32 - 1 pairs; then
-    /// `Memory`. The map is unchanged after each.
+    /// `Memory`. The map is unchanged after the first two, and the same after `Memory`, though its
+    /// vectors may have become its own.
     ///
     /// # Cost
-    /// Two searches. A new value in the place of another rewrites the values; a new pair copies the
-    /// lists that it joins and the joiner, and puts the copies in place once all are made.
+    /// Two searches. All memory is taken before the first change; each vector that changes then
+    /// moves what stands behind the place.
     pub fn insert<Q0: ZvOrdArg<K0>, Q1: ZvOrdArg<K1>, R: ZvArg<V>>(
         &mut self,
         alloc: Global,
@@ -270,15 +396,11 @@ impl<
             (Q0.bytes key0.now) (Q1.bytes key1.now) (R.bytes value.now)) }
         ensures before { IfOk result (λ old. option_map D.OwnedType.bytes old
             ≡ find K0.cmp K1.cmp self.old.rows (Q0.bytes key0.now) (Q1.bytes key1.now)) }
-        ensures err { OnErr result (self.new ≡ self.old) }
+        ensures err { OnErr result (IsSameMap self.old self.new) }
+        ensures unchanged { IfErr result (λ e. (e ≡ Map2dError.Memory → ⊥) → self.new ≡ self.old) }
         ensures refused { RefusedUnless
-            (fits
-            (record {
-              takes0 = C0.takes_insert;
-              takes1 = C1.takes_insert;
-              takes2 = D.takes_insert;
-              replaces = D.takes_replace;
-            }) K0.cmp K1.cmp self.old.rows
+            (fits (rule_of C0.takes_insert C1.takes_insert D.takes_insert D.takes_replace)
+            K0.cmp K1.cmp self.old.rows
             (Q0.bytes key0.now) (Q1.bytes key1.now) (R.bytes value.now))
             (is_none (find K0.cmp K1.cmp self.old.rows (Q0.bytes key0.now) (Q1.bytes key1.now))
             && is_full self.old.rows) result }
@@ -287,10 +409,12 @@ impl<
     }
 
     /// Takes a pair of keys out, with its row where that was its only pair, and gives back the
-    /// value that it had. The map is unchanged after `NoMemory`.
+    /// value that it had. After `NoMemory` the map is the same, though its vectors may have become
+    /// its own.
     ///
     /// # Cost
-    /// Two searches, and a copy of the lists that the pair leaves and of the joiner.
+    /// Two searches. All memory is taken before the first change; each vector that changes then
+    /// moves what stands behind the place.
     pub fn remove<Q0: ZvOrdArg<K0>, Q1: ZvOrdArg<K1>>(
         &mut self,
         alloc: Global,
@@ -303,7 +427,7 @@ impl<
             ≡ del K0.cmp K1.cmp self.old.rows (Q0.bytes key0.now) (Q1.bytes key1.now)) }
         ensures before { IfOk result (λ old. option_map D.OwnedType.bytes old
             ≡ find K0.cmp K1.cmp self.old.rows (Q0.bytes key0.now) (Q1.bytes key1.now)) }
-        ensures err { OnErr result (self.new ≡ self.old) }
+        ensures err { OnErr result (IsSameMap self.old self.new) }
     {
         self.columns.remove(alloc, key0, key1)
     }

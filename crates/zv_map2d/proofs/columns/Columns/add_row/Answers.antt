@@ -1,55 +1,73 @@
-use Rattle.std.proofs.Common.{length, refl, ap, arith}
+use Rattle.std.proofs.Common.{◌+◌, length, sym, ap, subst, arith}
+use Rattle.std.proofs.lemmas.List.Edits.{length-insert}
+use Rattle.zv_map2d.specs.Room.{HasRoomFor}
 use Rattle.zv_map2d.proofs.Flat.{view_of}
-use Rattle.zv_map2d.proofs.Fitting.{is_taken}
-use Rattle.zv_map2d.proofs.Seen.{columns, ends_below, ends_count, pairs_below, rows_count, same_lists, seen}
-use Rattle.zv_map2d.proofs.Splices.{row_added, start_within}
+use Rattle.zv_map2d.proofs.Room.{spent}
+use Rattle.zv_map2d.proofs.Seen.{columns, ends_below, ends_count, few_more, rows_count, same_lists, seen}
+use Rattle.zv_map2d.proofs.Splices.{row_added, shift_count, start_within}
 use Rattle.zv_map2d.proofs.columns.Columns.add_row.Goals as goal
 
-pub with_element-requires : goal.with_element-requires
-with_element-requires g c κs =
-    let s = seen c.self.view_is c.self.invariant in
-    ((refl, tt), (c.requires.key0, (omega (arith, c.requires.row, rows_count s), is_taken g.C0.ZvContainer.takes_insert _ s.firsts_are c.requires.taken0)))
+pub zvl_insert_reserved-requires-clause-place : goal.zvl_insert_reserved-requires-clause-place
+zvl_insert_reserved-requires-clause-place g c = omega (arith, c.requires.row, rows_count (seen c.self.view_is c.self.invariant))
 
-pub with_element-requires-2 : goal.with_element-requires-2
-with_element-requires-2 g c κs =
-    let s = seen c.self.view_is c.self.invariant in
-    let m = c.args.self.now.rows in
-    let fits = is_taken g.C1.ZvContainer.takes_insert _ s.seconds_are c.requires.taken1 in
-    ((refl, tt), (c.requires.key1, (omega (arith, c.row_start-at.ensures, start_within (λ p. p.0) m c.args.row, ap length s.seconds_are), fits)))
+pub zvl_insert_reserved-requires-2-clause-place : goal.zvl_insert_reserved-requires-2-clause-place
+zvl_insert_reserved-requires-2-clause-place g c = omega (
+  arith,
+  c.row_start-at.ensures,
+  start_within (λ p. p.0) c.args.self.now.rows c.args.row,
+  ap length (seen c.self.view_is c.self.invariant).seconds_are,
+)
+
+pub zvl_insert_reserved-requires-3-clause-place : goal.zvl_insert_reserved-requires-3-clause-place
+zvl_insert_reserved-requires-3-clause-place g c = omega (
+  arith,
+  c.row_start-at.ensures,
+  start_within (λ p. p.1) c.args.self.now.rows c.args.row,
+  ap length (seen c.self.view_is c.self.invariant).values_are,
+)
+
+pub shift-requires-clause-below : goal.shift-requires-clause-below
+shift-requires-clause-below g c =
+    λ k h. omega (arith, ends_below (seen c.self.view_is c.self.invariant) (omega (arith, c.requires.room.pairs)) k h)
 
 pub overflow_cast-at : goal.overflow_cast-at
-overflow_cast-at g c =
-    let m = c.args.self.now.rows in
-    omega (arith, c.row_start-at.ensures, start_within (λ p. p.0) m c.args.row, pairs_below m c.requires.room)
+overflow_cast-at g c = omega (arith, c.row_start-at.ensures, start_within (λ p. p.0) c.args.self.now.rows c.args.row, c.requires.room.pairs)
 
 pub overflow_add-at : goal.overflow_add-at
-overflow_add-at g c =
-    let m = c.args.self.now.rows in
-    omega (arith, c.row_start-at.ensures, start_within (λ p. p.0) m c.args.row, pairs_below m c.requires.room)
+overflow_add-at g c = omega (arith, c.row_start-at.ensures, start_within (λ p. p.0) c.args.self.now.rows c.args.row, c.requires.room.pairs)
 
-pub with_end-requires : goal.with_end-requires
-with_end-requires g c =
-    let s = seen c.self.view_is c.self.invariant in
-    record { place = omega (arith, c.requires.row, ends_count s); below = ends_below s c.requires.room }
+pub insert_owned-requires-clause-place : goal.insert_owned-requires-clause-place
+insert_owned-requires-clause-place g c =
+    let many = shift_count 1 0 c.args.row c.self.inside.joiner.values in
+    omega (arith, c.requires.row, ends_count (seen c.self.view_is c.self.invariant), ap length c.shift.ensures.values, many)
 
-pub put_in-requires : goal.put_in-requires
-put_in-requires g c κs =
-    let s = seen c.self.view_is c.self.invariant in
-    let m = c.args.self.now.rows in
-    let fits = is_taken g.D.ZvContainer.takes_insert _ s.values_are c.requires.taken in
-    ((refl, tt), (c.requires.value, (omega (arith, c.row_start-at.ensures, start_within (λ p. p.1) m c.args.row, ap length s.values_are), fits)))
-
-pub invariant_of-self-2 : goal.invariant_of-self-2
-invariant_of-self-2 g c =
-    let s = seen c.self.view_is c.self.invariant in
-    let added = row_added s c.args.row c.row_start-at.result (g.Q0.ZvArg.bytes c.args.key0.now) (g.Q1.ZvArg.bytes c.args.key1.now)
-    (g.R.ZvArg.bytes c.args.value.now) c.requires.row c.row_start-at.ensures in
+pub invariant_of-self : goal.invariant_of-self
+invariant_of-self g c =
+    let added = row_added (seen c.self.view_is c.self.invariant) c.args.row c.row_start-at.result (g.Q0.ZvArg.bytes c.args.key0.now)
+    (g.Q1.ZvArg.bytes c.args.key1.now) (g.R.ZvArg.bytes c.args.value.now) c.requires.row c.row_start-at.ensures in
     columns c.self.invariant.keys0 c.self.invariant.keys1 c.self.invariant.values
-    (same_lists c.in_ok-keys0.ensures c.in_ok-joiner.ensures c.in_ok-keys1.ensures c.in_ok-put_in.ensures.ok added)
+    (same_lists c.zvl_insert_reserved.ensures.list (rw (← c.shift.ensures.values) c.insert_owned.ensures.values) c.zvl_insert_reserved-2.ensures.list
+    c.zvl_insert_reserved-3.ensures.list added)
 
 pub returns-clause-rows : goal.returns-clause-rows
 returns-clause-rows g c =
-    let s = seen c.self.view_is c.self.invariant in
-    let added = row_added s c.args.row c.row_start-at.result (g.Q0.ZvArg.bytes c.args.key0.now) (g.Q1.ZvArg.bytes c.args.key1.now)
-    (g.R.ZvArg.bytes c.args.value.now) c.requires.row c.row_start-at.ensures in
-    view_of _ _ _ _ _ (same_lists c.in_ok-keys0.ensures c.in_ok-joiner.ensures c.in_ok-keys1.ensures c.in_ok-put_in.ensures.ok added)
+    let added = row_added (seen c.self.view_is c.self.invariant) c.args.row c.row_start-at.result (g.Q0.ZvArg.bytes c.args.key0.now)
+    (g.Q1.ZvArg.bytes c.args.key1.now) (g.R.ZvArg.bytes c.args.value.now) c.requires.row c.row_start-at.ensures in
+    view_of _ _ _ _ _ (same_lists c.zvl_insert_reserved.ensures.list (rw (← c.shift.ensures.values) c.insert_owned.ensures.values)
+    c.zvl_insert_reserved-2.ensures.list c.zvl_insert_reserved-3.ensures.list added)
+
+pub returns-clause-spends : goal.returns-clause-spends
+returns-clause-spends g c =
+    let k1 = g.Q1.ZvArg.bytes c.args.key1.now in
+    let more = length-insert (g.C1.ZeroVecLike.list c.self.inside.keys1) c.row_start-at.result k1 (omega (
+      arith,
+      c.row_start-at.ensures,
+      start_within (λ p. p.0) c.args.self.now.rows c.args.row,
+      ap length (seen c.self.view_is c.self.invariant).seconds_are,
+    )) in
+    spent c.self.view_is
+    (record { owned = g.met.C0.ZvContainer.ready_owned _ c.zvl_insert_reserved.ensures.ready; spare = omega (arith, c.zvl_insert_reserved.ensures.spare) })
+    (record { owned = c.insert_owned.ensures.owned; spare = omega (arith, c.shift.ensures.spare, c.insert_owned.ensures.spare) })
+    (record { owned = g.met.C1.ZvContainer.ready_owned _ c.zvl_insert_reserved-2.ensures.ready; spare = omega (arith, c.zvl_insert_reserved-2.ensures.spare) })
+    (record { owned = g.met.D.ZvContainer.ready_owned _ c.zvl_insert_reserved-3.ensures.ready; spare = omega (arith, c.zvl_insert_reserved-3.ensures.spare) })
+    (few_more 1 c.self.invariant (invariant_of-self g c) (omega (arith, more, ap length c.zvl_insert_reserved-2.ensures.list)))

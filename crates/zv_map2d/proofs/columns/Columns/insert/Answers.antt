@@ -1,23 +1,18 @@
 use Rattle.zv_map2d.specs.Fits.{rule_of}
-use Rattle.zv_map2d.proofs.Outcomes.{pair_put, row_put, value_put}
+use Rattle.zv_map2d.specs.declared.place.Place.TheVariants.{Pair}
+use Rattle.zv_map2d.proofs.Places.{new_said, nothing_there, put_said}
 use Rattle.zv_map2d.proofs.columns.Columns.insert.Goals as goal
 
-pub returns-in-Ok-pair_place : goal.returns-in-Ok-pair_place
-returns-in-Ok-pair_place g c =
+pub returns-in-Pair : goal.returns-in-Pair
+returns-in-Pair g c =
     let rule = rule_of g.C0.ZvContainer.takes_insert g.C1.ZvContainer.takes_insert g.D.ZvContainer.takes_insert g.D.ZvContainer.takes_replace in
-    value_put _ g.met.K0.ZvOrd.total g.met.K1.ZvOrd.total c.args.self.now c.replace_value.new.self (g.Q0.ZvArg.bytes c.args.key0.now)
-    (g.Q1.ZvArg.bytes c.args.key1.now) rule (g.R.ZvArg.bytes c.args.value.now) c.replace_value.result c.in-Ok.row c.in-Ok.ensures c.in-Ok-pair_place.pair
-    c.in-Ok-pair_place.ensures c.replace_value.ensures
+    put_said _ g.met.K0.ZvOrd.total g.met.K1.ZvOrd.total rule c.args.self.now c.replace_value.new.self (g.Q0.ZvArg.bytes c.args.key0.now)
+    (g.Q1.ZvArg.bytes c.args.key1.now) (g.R.ZvArg.bytes c.args.value.now) (Pair c.in-Pair.row c.in-Pair.pair) c.replace_value.result c.in-Pair.ensures
+    c.replace_value.ensures
 
-pub returns-in-Err-pair_place : goal.returns-in-Err-pair_place
-returns-in-Err-pair_place g c =
+pub returns : goal.returns
+returns g c =
     let rule = rule_of g.C0.ZvContainer.takes_insert g.C1.ZvContainer.takes_insert g.D.ZvContainer.takes_insert g.D.ZvContainer.takes_replace in
-    pair_put _ g.met.K0.ZvOrd.total g.met.K1.ZvOrd.total c.args.self.now c.insert_pair.new.self (g.Q0.ZvArg.bytes c.args.key0.now)
-    (g.Q1.ZvArg.bytes c.args.key1.now) rule (g.R.ZvArg.bytes c.args.value.now) c.insert_pair.result c.in-Ok.row c.in-Ok.ensures c.in-Err-pair_place.pair
-    c.in-Err-pair_place.ensures c.insert_pair.ensures
-
-pub returns-in-Err : goal.returns-in-Err
-returns-in-Err g c =
-    let rule = rule_of g.C0.ZvContainer.takes_insert g.C1.ZvContainer.takes_insert g.D.ZvContainer.takes_insert g.D.ZvContainer.takes_replace in
-    row_put _ g.met.K0.ZvOrd.total g.met.K1.ZvOrd.total c.args.self.now c.insert_row.new.self (g.Q0.ZvArg.bytes c.args.key0.now)
-    (g.Q1.ZvArg.bytes c.args.key1.now) rule (g.R.ZvArg.bytes c.args.value.now) c.insert_row.result c.in-Err.row c.in-Err.ensures c.insert_row.ensures
+    put_said _ g.met.K0.ZvOrd.total g.met.K1.ZvOrd.total rule c.args.self.now c.insert_at.new.self (g.Q0.ZvArg.bytes c.args.key0.now)
+    (g.Q1.ZvArg.bytes c.args.key1.now) (g.R.ZvArg.bytes c.args.value.now) c.place-place.result c.insert_at.result c.place-place.ensures
+    (new_said (nothing_there c.args.self.now.rows c.place-place.result c.in_default.not-Pair) c.insert_at.ensures)

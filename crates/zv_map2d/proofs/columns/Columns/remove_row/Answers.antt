@@ -1,38 +1,52 @@
-use Rattle.std.proofs.Common.{length, refl, ap, arith, rules}
+use Rattle.std.proofs.Common.{◌+◌, length, sym, ap, subst, arith}
+use Rattle.std.proofs.lemmas.List.Edits.{length-remove}
 use Rattle.zv_map2d.proofs.Flat.{pair_within, view_of}
-use Rattle.zv_map2d.proofs.Seen.{columns, ends_count, ends_some, rows_count, same_lists, seen}
-use Rattle.zv_map2d.proofs.Splices.{row_removed}
+use Rattle.zv_map2d.proofs.Room.{spent}
+use Rattle.zv_map2d.proofs.Seen.{columns, ends_count, ends_some, few_more, same_lists, seen}
+use Rattle.zv_map2d.proofs.Splices.{row_removed, shift_count}
 use Rattle.zv_map2d.proofs.columns.Columns.remove_row.Goals as goal
 
-pub without_element-requires : goal.without_element-requires
-without_element-requires g c κs = ((refl, tt), omega (arith, c.requires.row, rows_count (seen c.self.view_is c.self.invariant)))
-
-pub without_element-requires-2 : goal.without_element-requires-2
-without_element-requires-2 g c κs =
+pub zvl_discard-requires-2-clause-place : goal.zvl_discard-requires-2-clause-place
+zvl_discard-requires-2-clause-place g c =
     let within = pair_within (λ p. p.0) c.args.self.now.rows c.args.row c.requires.row 0 (omega (arith, c.requires.single)) in
-    ((refl, tt), omega (arith, c.row_start-at.ensures, within, ap length (seen c.self.view_is c.self.invariant).seconds_are))
+    omega (arith, c.row_start-at.ensures, within, ap length (seen c.self.view_is c.self.invariant).seconds_are)
 
-pub without_end-requires : goal.without_end-requires
-without_end-requires g c =
-    let s = seen c.self.view_is c.self.invariant in
-    record { place = omega (arith, c.requires.row, ends_count s); above = ends_some s c.args.row c.requires.row (omega (arith, c.requires.single)) }
-
-pub zvl_remove-requires : goal.zvl_remove-requires
-zvl_remove-requires g c κs =
+pub zvl_discard-requires-3-clause-place : goal.zvl_discard-requires-3-clause-place
+zvl_discard-requires-3-clause-place g c =
     let within = pair_within (λ p. p.1) c.args.self.now.rows c.args.row c.requires.row 0 (omega (arith, c.requires.single)) in
-    ((refl, tt), omega (arith, c.row_start-at.ensures, within, ap length (seen c.self.view_is c.self.invariant).values_are))
+    omega (arith, c.row_start-at.ensures, within, ap length (seen c.self.view_is c.self.invariant).values_are)
 
-pub invariant_of-self-2 : goal.invariant_of-self-2
-invariant_of-self-2 g c =
+pub shift-requires-clause-above : goal.shift-requires-clause-above
+shift-requires-clause-above g c = ends_some (seen c.self.view_is c.self.invariant) c.args.row c.requires.row (omega (arith, c.requires.single))
+
+pub remove_owned-requires-clause-place : goal.remove_owned-requires-clause-place
+remove_owned-requires-clause-place g c =
+    let many = shift_count 0 1 c.args.row c.self.inside.joiner.values in
+    omega (arith, c.requires.row, ends_count (seen c.self.view_is c.self.invariant), ap length c.shift.ensures.values, many)
+
+pub invariant_of-self : goal.invariant_of-self
+invariant_of-self g c =
     let gone = row_removed (seen c.self.view_is c.self.invariant) c.args.row c.row_start-at.result c.requires.row c.requires.single c.row_start-at.ensures in
     columns c.self.invariant.keys0 c.self.invariant.keys1 c.self.invariant.values
-    (same_lists c.in_ok-keys0.ensures c.in_ok-joiner.ensures c.in_ok-keys1.ensures c.in_ok-old.ensures.ok gone)
+    (same_lists c.zvl_discard.ensures.list (rw (← c.shift.ensures.values) c.remove_owned.ensures.values) c.zvl_discard-2.ensures.list
+    c.zvl_discard-3.ensures.list gone)
 
-pub returns : goal.returns
-returns g c =
+pub returns-clause-rows : goal.returns-clause-rows
+returns-clause-rows g c =
     let gone = row_removed (seen c.self.view_is c.self.invariant) c.args.row c.row_start-at.result c.requires.row c.requires.single c.row_start-at.ensures in
-    record {
-      rows = view_of _ _ _ _ _ (same_lists c.in_ok-keys0.ensures c.in_ok-joiner.ensures c.in_ok-keys1.ensures c.in_ok-old.ensures.ok gone);
-      before = search rules;
-      err = tt;
-    }
+    view_of _ _ _ _ _ (same_lists c.zvl_discard.ensures.list (rw (← c.shift.ensures.values) c.remove_owned.ensures.values) c.zvl_discard-2.ensures.list
+    c.zvl_discard-3.ensures.list gone)
+
+pub returns-clause-spends : goal.returns-clause-spends
+returns-clause-spends g c =
+    let less = length-remove (g.C1.ZeroVecLike.list c.self.inside.keys1) c.row_start-at.result (omega (
+      arith,
+      c.row_start-at.ensures,
+      pair_within (λ p. p.0) c.args.self.now.rows c.args.row c.requires.row 0 (omega (arith, c.requires.single)),
+      ap length (seen c.self.view_is c.self.invariant).seconds_are,
+    )) in
+    spent c.self.view_is (record { owned = c.zvl_discard.ensures.owned; spare = omega (arith, c.zvl_discard.ensures.spare) })
+    (record { owned = c.remove_owned.ensures.owned; spare = omega (arith, c.shift.ensures.spare, c.remove_owned.ensures.spare) })
+    (record { owned = c.zvl_discard-2.ensures.owned; spare = omega (arith, c.zvl_discard-2.ensures.spare) })
+    (record { owned = c.zvl_discard-3.ensures.owned; spare = omega (arith, c.zvl_discard-3.ensures.spare) })
+    (few_more 0 c.self.invariant (invariant_of-self g c) (omega (arith, less, ap length c.zvl_discard-2.ensures.list)))

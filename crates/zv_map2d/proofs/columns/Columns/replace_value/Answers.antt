@@ -1,26 +1,28 @@
 use Rattle.std.proofs.Common.{length, refl, ap, arith, rules}
-use Rattle.zv_map2d.proofs.Flat.{pair_within}
-use Rattle.zv_map2d.proofs.Seen.{seen, value_columns, value_rows}
+use Rattle.zv_map2d.proofs.Flat.{pair_within, view_of}
+use Rattle.zv_map2d.proofs.Seen.{columns, same_lists, seen}
+use Rattle.zv_map2d.proofs.Splices.{value_set}
 use Rattle.zv_map2d.proofs.columns.Columns.replace_value.Goals as goal
 
-pub replace_in-requires : goal.replace_in-requires
-replace_in-requires g c κs =
+pub zvl_replace-requires : goal.zvl_replace-requires
+zvl_replace-requires g c κs =
     let within = pair_within (λ p. p.1) c.args.self.now.rows c.args.row c.requires.row c.args.pair c.requires.pair in
     ((refl, tt), (c.requires.value, omega (arith, c.pair_start-at.ensures, within, ap length (seen c.self.view_is c.self.invariant).values_are)))
 
-pub invariant_of-self : goal.invariant_of-self
-invariant_of-self g c =
-    value_columns g.D.ZeroVecLike.list c.self.inside.values c.replace_in.new.list c.self.invariant (seen c.self.view_is c.self.invariant) c.args.row
-    c.args.pair c.requires.row c.requires.pair
-    c.pair_start-at.ensures (g.R.ZvArg.bytes c.args.value.now) c.replace_in.result c.replace_in.ensures.ok c.replace_in.ensures.err
+pub invariant_of-self-2 : goal.invariant_of-self-2
+invariant_of-self-2 g c =
+    let s = seen c.self.view_is c.self.invariant in
+    columns c.self.invariant.keys0 c.self.invariant.keys1 c.self.invariant.values (same_lists refl refl refl c.in_ok-old.ensures.ok
+    (value_set s c.args.row c.args.pair c.pair_start-at.result c.requires.row c.pair_start-at.ensures (g.R.ZvArg.bytes c.args.value.now) c.requires.pair))
 
 pub returns : goal.returns
-returns g c = record {
-  changes = record {
-    rows = value_rows g.D.ZeroVecLike.list c.self.inside.values c.replace_in.new.list (seen c.self.view_is c.self.invariant) c.args.row c.args.pair
-        c.requires.row c.requires.pair c.pair_start-at.ensures (g.R.ZvArg.bytes c.args.value.now) c.replace_in.result c.replace_in.ensures.ok;
-    before = search rules;
-    err = search rules;
-  };
-  refused = search rules;
-}
+returns g c =
+    let s = seen c.self.view_is c.self.invariant in
+    record {
+      rows = view_of _ _ _ _ _ (same_lists refl refl refl c.in_ok-old.ensures.ok
+          (value_set s c.args.row c.args.pair c.pair_start-at.result c.requires.row c.pair_start-at.ensures (g.R.ZvArg.bytes c.args.value.now)
+          c.requires.pair));
+      before = search rules;
+      err = tt;
+      refused = search rules;
+    }

@@ -1,9 +1,10 @@
-use Rattle.zv_map2d.proofs.Outcomes.{changes_well}
-use Rattle.zv_map2d.proofs.Well.{del_well}
+use Rattle.std.proofs.lemmas.Result.{on_err_weaker}
+use Rattle.zv_map2d.proofs.Well.{changed_well, del_well}
 use Rattle.zv_map2d.proofs.map.Map2dOver.remove.Goals as goal
 
 pub invariant_of-self : goal.invariant_of-self
 invariant_of-self g c =
-    let after = del_well g.met.K0.ZvOrd.total g.met.K1.ZvOrd.total c.self.inside.columns.rows (g.Q0.ZvArg.bytes c.args.key0.now) c.self.invariant
-    (g.Q1.ZvArg.bytes c.args.key1.now) in
-    changes_well g.K0.ZvOrd.cmp g.K1.ZvOrd.cmp c.remove.result c.remove.ensures after c.self.invariant
+    changed_well c.self.inside.columns c.remove.new.self g.K0.ZvOrd.cmp g.K1.ZvOrd.cmp _
+    (del_well g.met.K0.ZvOrd.total g.met.K1.ZvOrd.total c.self.inside.columns.rows
+    (g.Q0.ZvArg.bytes c.args.key0.now) c.self.invariant (g.Q1.ZvArg.bytes c.args.key1.now)) c.self.invariant
+    c.remove.result c.remove.ensures.rows (on_err_weaker c.remove.result (λ s. s.rows) c.remove.ensures.err)

@@ -1,0 +1,55 @@
+-- Changes of a map that take no memory: the room that they need, and what they leave of it.
+use Rattle.std.specs.Prelude.{◌≡◌, ◌≤◌, ℕ, ◌+◌, ◌*◌, length, true}
+use Rattle.zv_map.specs.Reserved.{HasRoom}
+use Rattle.zv_map2d.specs.Rows.{seconds}
+use Rattle.zv_map2d.specs.Views.{Map2d, Vector, parts_of}
+
+-- a vector owns its bytes, and can grow by n of them without memory
+abbrev pub CanGrow : Vector → ℕ → Type 0
+CanGrow v n = HasRoom v.owned v.spare n
+
+-- and so each vector of a map, by so many
+pub record CanGrowBy (bytes0 ends bytes1 bytes2 : ℕ) (m : Map2d) : Type 0 where
+  pub keys0 : CanGrow m.keys0 bytes0
+  pub joiner : CanGrow m.joiner ends
+  pub keys1 : CanGrow m.keys1 bytes1
+  pub values : CanGrow m.values bytes2
+
+-- room for so many puts whose elements have these lengths in sum, where fields of the three lists
+-- have w0, w1 and w2 bytes
+pub record HasRoomFor (w0 w1 w2 bytes0 bytes1 bytes2 puts : ℕ) (m : Map2d) : Type 0 where
+  pub keys0 : CanGrow m.keys0 (bytes0 + w0 * puts)
+  pub joiner : CanGrow m.joiner (4 * puts)
+  pub keys1 : CanGrow m.keys1 (bytes1 + w1 * puts)
+  pub values : CanGrow m.values (bytes2 + w2 * puts)
+  pub pairs : length (seconds m.rows) + puts ≤ 4294967295
+
+-- every vector owns its bytes
+pub record IsOwned (m : Map2d) : Type 0 where
+  pub keys0 : m.keys0.owned ≡ true
+  pub joiner : m.joiner.owned ≡ true
+  pub keys1 : m.keys1.owned ≡ true
+  pub values : m.values.owned ≡ true
+
+-- after a change a vector still owns its bytes, and can grow by at most n fewer
+pub record Spends (n : ℕ) (before after : Vector) : Type 0 where
+  pub owned : after.owned ≡ true
+  pub spare : before.spare ≤ after.spare + n
+
+-- and so each vector of a map, by so many puts whose elements have these lengths in sum; there are
+-- at most so many pairs more
+pub record SpendsFor (w0 w1 w2 bytes0 bytes1 bytes2 puts : ℕ) (before after : Map2d) : Type 0 where
+  pub keys0 : Spends (bytes0 + w0 * puts) before.keys0 after.keys0
+  pub joiner : Spends (4 * puts) before.joiner after.joiner
+  pub keys1 : Spends (bytes1 + w1 * puts) before.keys1 after.keys1
+  pub values : Spends (bytes2 + w2 * puts) before.values after.values
+  pub pairs : length (seconds after.rows) ≤ length (seconds before.rows) + puts
+
+-- the same map in the same bytes, whose vectors may have become owned and can grow by no less
+pub record IsSameMap (before after : Map2d) : Type 0 where
+  pub rows : after.rows ≡ before.rows
+  pub parts : parts_of after ≡ parts_of before
+  pub keys0 : before.keys0.spare ≤ after.keys0.spare
+  pub joiner : before.joiner.spare ≤ after.joiner.spare
+  pub keys1 : before.keys1.spare ≤ after.keys1.spare
+  pub values : before.values.spare ≤ after.values.spare
