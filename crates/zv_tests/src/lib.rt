@@ -15,3 +15,5 @@ mod long_inputs;
 mod runs;
 #[cfg(test)]
 mod worked;
+#[cfg(test)]
+mod writes;

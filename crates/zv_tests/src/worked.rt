@@ -1,11 +1,11 @@
 // Worked inputs, given to the program in pieces of several sizes.
 use crate::cases::{Case, cases};
 use crate::changes::changes;
-use crate::runs::{answer_of, join, memory_devices, words_of};
+use crate::runs::{answer_of, failing_devices, join, memory_devices, words_of};
 use std::alloc::Global;
 use std::process::Abort;
 use std::test::Fail;
-use zv_tool::Words;
+use zv_tool::{Status, Words};
 
 // A case, with its texts joined.
 #[derive(Drop)]
@@ -46,6 +46,31 @@ fn try_piece(
     Ok(())
 }
 
+// How long a front of an answer is, up to its image's line and three bytes more.
+fn replies_and_three(output: &[u8]) -> usize {
+    let replies = output.windows(7).position(|w| w == b"image x".as_slice());
+    replies.unwrap_or(0).saturating_add(3)
+}
+
+// A run whose sink fails at a write, of which it takes three bytes.
+fn try_failing_write(
+    rt: &impl Abort,
+    alloc: Global,
+    case: &Case,
+    joined: &JoinedCase,
+    write: usize,
+    len: usize,
+) -> Result<(), Fail> {
+    let name = case.name;
+    let devices = failing_devices(alloc, &joined.input, &[], &[write])?;
+    let answer = answer_of(alloc, &joined.words, devices);
+    let taken = answer.sink.taken();
+    assert_eq!(rt; answer.status, Status::WriteFault, "{name}, write {write}");
+    assert_eq!(rt; taken.len(), len, "{name}, write {write}");
+    assert!(rt; joined.output.starts_with(taken), "{name}, write {write}");
+    Ok(())
+}
+
 // The runs of each case.
 fn try_cases(rt: &impl Abort, alloc: Global, cases: &[Case]) -> Result<(), Fail> {
     for case in cases {
@@ -65,4 +90,18 @@ fn each_input_is_answered(rt: HostRuntime) -> Result<(), Fail> {
 #[test]
 fn each_change_is_answered(rt: HostRuntime) -> Result<(), Fail> {
     try_cases(&rt, rt.alloc(), changes())
+}
+
+#[test]
+fn each_write_of_an_answer_can_fail(rt: HostRuntime) -> Result<(), Fail> {
+    let alloc = rt.alloc();
+    for case in changes() {
+        if case.status == Status::Done {
+            let joined = join_case(alloc, case)?;
+            let replies = replies_and_three(&joined.output);
+            try_failing_write(&rt, alloc, case, &joined, 0, 3)?;
+            try_failing_write(&rt, alloc, case, &joined, 1, replies)?;
+        }
+    }
+    Ok(())
 }

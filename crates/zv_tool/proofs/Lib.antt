@@ -5,5 +5,7 @@ pub mod Fields
 pub mod HexText
 pub mod Left
 pub mod Parsing
-pub mod Puts
+pub mod PutRoom
 pub mod Refusals
+pub mod Sending
+pub mod Served

@@ -8,3 +8,5 @@ pub mod Laws
 pub mod Memory
 pub mod Output
 pub mod Program
+pub mod Room
+pub mod Sending

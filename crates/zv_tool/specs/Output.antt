@@ -29,7 +29,7 @@ line text = text ++ 10 ∷ []
 
 -- a pair in its row's line: each field after a space
 abbrev pub pair_text : List ℕ × List ℕ → List ℕ
-pair_text pair = codes " " ++ hex_field pair.0 ++ codes " " ++ hex_field pair.1
+pair_text pair = (codes " " ++ hex_field pair.0) ++ (codes " " ++ hex_field pair.1)
 
 -- a reply's line
 abbrev pub text : Reply → List ℕ

@@ -50,7 +50,7 @@ impl Model for Commands {
 }
 
 impl Commands {
-    ghost use Rattle.std.specs.Prelude.{◌≡◌, ◌+◌, ◌<◌, ◌↔◌, [], ◌∷◌, ◌++◌, length, slice_get};
+    ghost use Rattle.std.specs.Prelude.{◌≡◌, ◌+◌, ◌<◌, ◌≤◌, ◌↔◌, [], ◌∷◌, ◌++◌, length, slice_get};
     ghost use Rattle.std.specs.Prelude.{IsTrue, OnOk, OnErr, IsErrOf};
     ghost use Rattle.std.specs.Option.{option_copied};
     ghost use Rattle.zv_tool.specs.Commands.{total_size, command_size};
@@ -104,7 +104,8 @@ impl Commands {
 
     // All of them.
     pub(crate) fn as_slice(&self) -> &[Command]
-        ensures { result.now ≡ self.now }
+        ensures all { result.now ≡ self.now }
+        ensures within { total_size self.now ≤ MAX_COMMANDS }
     {
         &self.commands
     }

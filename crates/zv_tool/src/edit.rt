@@ -1,55 +1,22 @@
 // Answers commands over an image.
-ghost use Rattle.std.specs.Prelude.{◌≡◌, ◌≤◌, IsTrue, IfErr, IfOk, OnOk, OnErr, IsErrOf};
-ghost use Rattle.std.specs.Prelude.{None, Some, false};
+ghost use Rattle.std.specs.Prelude.{◌≡◌, ◌≤◌, IsTrue, IfErr, OnOk, IsErrOf, None, Some};
 ghost use Rattle.zv_map2d.specs.Causes.{is_cause};
-ghost use Rattle.zv_map2d.specs.Fits.{fits_texts};
-ghost use Rattle.zv_map2d.specs.Image.{by_bytes, fault};
-ghost use Rattle.zv_map2d.specs.Refusals.{RefusedUnless};
-ghost use Rattle.zv_map2d.specs.Rows.{find, put};
+ghost use Rattle.zv_map2d.specs.Image.{fault};
 ghost use Rattle.zv_tool.specs.Answers.{IsAnswer};
 ghost use Rattle.zv_tool.specs.Devices.{Rose, Written, CutShort};
 
-use crate::command::{KeyText, ValueBytes};
 use crate::commands::Commands;
 use crate::device::{Failed, Sink};
-use crate::replies::answer_text;
+use crate::room::reserve;
+use crate::serving::serve;
 use std::alloc::Global;
-use zv_map2d::{EditError, Map2dError, ZeroMap2d, parse_image};
-use zv_ule::{SliceULE, StrULE, VarBox, VarRef};
-
-/// The map of an image.
-pub(crate) type ImageMap<'a> = ZeroMap2d<'a, StrULE, StrULE, SliceULE<u8>>;
-
-/// Gives a pair of keys a value, and gives back the value that it had.
-///
-/// A value that does not fit is refused as too large. Where a new pair fits there are fewer than
-/// 65,536, so it is never one too many.
-pub(crate) fn put_value(
-    alloc: Global,
-    map: &mut ImageMap<'_>,
-    key0: &KeyText,
-    key1: &KeyText,
-    value: &ValueBytes,
-) -> Result<Option<VarBox<SliceULE<u8>>>, Map2dError>
-    ensures rows { OnOk result (map.new.rows
-        ≡ put by_bytes by_bytes map.old.rows key0.now key1.now value.now) }
-    ensures before { IfOk result (λ old. old
-        ≡ find by_bytes by_bytes map.old.rows key0.now key1.now) }
-    ensures err { OnErr result (map.new ≡ map.old) }
-    ensures refused { RefusedUnless
-        (fits_texts map.old.rows key0.now key1.now value.now) false result }
-{
-    map.in_order();
-    let value = VarRef::of_bytes(value.as_bytes());
-    map.insert(alloc, &key0.as_str(), &key1.as_str(), &value)
-}
+use zv_map2d::{EditError, parse_image};
 
 /// Runs commands on the map of an image, in order: a reply for each, and the line of the canonical
 /// image of the map that they leave.
 ///
-/// The image is read in place, and only what a command changes is copied. The whole text is
-/// collected and then written in one piece, so memory is refused before the first byte. A refused
-/// image takes no memory and writes nothing.
+/// The image is copied once, with room for all puts, so memory is refused before the first byte and
+/// never after it; [`serve`] does the rest. A refused image takes no memory and writes nothing.
 pub fn edit2d<K: Sink>(
     alloc: Global,
     image: &[u8],
@@ -74,10 +41,10 @@ pub fn edit2d<K: Sink>(
         → CutShort (IsAnswer image.now commands.now) (K.taken sink.old) (K.taken sink.new) }
 {
     let mut map = parse_image(image)?;
-    let Ok(text) = answer_text(alloc, &mut map, commands) else {
+    if reserve(alloc, &mut map, commands).is_err() {
         return Err(EditError::Memory);
-    };
-    match sink.write(&text) {
+    }
+    match serve(&mut map, commands, sink) {
         Ok(()) => Ok(()),
         Err(Failed) => Err(EditError::Write),
     }

@@ -1,78 +1,107 @@
-// The text that is written, piece by piece.
-ghost use Rattle.std.specs.Prelude.{◌≡◌, ◌++◌, OnOk};
+// The answer on its way to a sink, piece by piece.
+ghost use Rattle.std.specs.Prelude.{◌≡◌, ◌<◌, ◌≤◌, [], ◌++◌, length, OnOk};
 ghost use Rattle.hex.specs.Hex.{encode_lower};
-ghost use Rattle.zv_map2d.specs.Frame.{frame};
-ghost use Rattle.zv_var.specs.Frame.{framed};
-ghost use Rattle.zv_tool.specs.Output.{line, pair_text, image_line};
+ghost use Rattle.zv_tool.specs.Sending.{Sends};
 
-use zv_map2d::Parts;
-use zv_ule::NoMemory;
-use zv_var::frame::part_len;
+use crate::device::{Failed, Sink};
+use crate::piece::Piece;
 
-// How many bytes are written as hex at once.
-const PIECE: usize = 64;
+// How many bytes are added as hex at once.
+const FEW: usize = 64;
 
-// Adds the hex digits of bytes.
-fn push_hex(out: &mut Vec<u8>, bytes: &[u8]) -> Result<(), NoMemory>
-    ensures { OnOk result (out.new.items ≡ out.old.items ++ encode_lower bytes.now) }
-{
-    let mut digits = [0u8; 2 * PIECE];
-    let mut rest = bytes;
-    while !rest.is_empty() {
-        let (piece, after) = rest.split_at(rest.len().min(PIECE));
-        let digits = &mut digits[..2 * piece.len()];
-        hex::encode_to_slice(piece, digits).unwrap();
-        out.extend_from_slice(digits)?;
-        rest = after;
+/// Text on its way to a sink. It waits until it makes a whole piece of 4096 bytes, which is then
+/// one write, or until it is sent. After a failed write it is of no more use.
+#[derive(Drop)]
+pub(crate) struct Output<'s, K> {
+    sink: &'s mut K,
+    piece: Piece,
+}
+
+impl<'s, K: Sink> Output<'s, K> {
+    /// No text yet.
+    pub(crate) fn new(sink: &'s mut K) -> Self
+        ensures same { result.sink.ghost_name ≡ sink.entry.ghost_name }
+        ensures sink { result.sink.now ≡ sink.old }
+        ensures empty { result.piece ≡ [] }
+    {
+        Output {
+            sink,
+            piece: Piece::new(),
+        }
     }
-    Ok(())
-}
 
-/// Adds a line of a head, which ends with the mark of a field, and the hex digits of a value.
-pub(crate) fn push_value(out: &mut Vec<u8>, head: &[u8], value: &[u8]) -> Result<(), NoMemory>
-    ensures { OnOk result (out.new.items
-        ≡ out.old.items ++ line (head.now ++ encode_lower value.now)) }
-{
-    out.extend_from_slice(head)?;
-    push_hex(out, value)?;
-    out.extend_from_slice(b"\n")?;
-    Ok(())
-}
+    /// Sends what waits, if anything does.
+    pub(crate) fn send(&mut self) -> Result<(), Failed>
+        ensures text { Sends K.taken K.faults self.old self.new result [] }
+        ensures empty { OnOk result (self.new.piece ≡ []) }
+    {
+        if self.piece.as_slice().is_empty() {
+            return Ok(());
+        }
+        self.sink.write(self.piece.as_slice())?;
+        self.piece.clear();
+        Ok(())
+    }
 
-/// Adds a pair to the line of its row.
-pub(crate) fn push_pair(out: &mut Vec<u8>, key: &[u8], value: &[u8]) -> Result<(), NoMemory>
-    ensures { OnOk result (out.new.items ≡ out.old.items ++ pair_text (key.now, value.now)) }
-{
-    out.extend_from_slice(b" x")?;
-    push_hex(out, key)?;
-    out.extend_from_slice(b" x")?;
-    push_hex(out, value)?;
-    Ok(())
-}
+    // Sends what waits where that is a whole piece, so that there is room for a byte.
+    fn make_room(&mut self) -> Result<(), Failed>
+        ensures text { Sends K.taken K.faults self.old self.new result [] }
+        ensures room { OnOk result (length self.new.piece < 4096) }
+    {
+        if self.piece.room() == 0 {
+            self.send()?;
+        }
+        Ok(())
+    }
 
-// Adds the hex digits of a part after its length.
-fn push_part(out: &mut Vec<u8>, part: &[u8]) -> Result<(), NoMemory>
-    ensures { OnOk result (out.new.items ≡ out.old.items ++ encode_lower (framed part.now)) }
-{
-    push_hex(out, &part_len(part))?;
-    push_hex(out, part)?;
-    Ok(())
-}
+    /// Adds a text.
+    pub(crate) fn write(&mut self, text: &[u8]) -> Result<(), Failed>
+        ensures { Sends K.taken K.faults self.old self.new result text.now }
+    {
+        let mut rest = text;
+        while !rest.is_empty() {
+            self.make_room()?;
+            let (front, after) = rest.split_at(rest.len().min(self.piece.room()));
+            self.piece.push(front);
+            rest = after;
+        }
+        Ok(())
+    }
 
-/// Adds the line of the image of four parts.
-pub(crate) fn push_image(out: &mut Vec<u8>, parts: Parts<'_>) -> Result<(), NoMemory>
-    ensures { OnOk result (out.new.items ≡ out.old.items ++ image_line (frame (record {
-      keys0 = parts.entry.keys0.now;
-      joiner = parts.entry.joiner.now;
-      keys1 = parts.entry.keys1.now;
-      values = parts.entry.values.now;
-    }))) }
-{
-    out.extend_from_slice(b"image x")?;
-    push_part(out, parts.keys0)?;
-    push_part(out, parts.joiner)?;
-    push_part(out, parts.keys1)?;
-    push_part(out, parts.values)?;
-    out.extend_from_slice(b"\n")?;
-    Ok(())
+    // Adds the hex digits of a few bytes: straight where there is room for all of them.
+    fn write_few(&mut self, bytes: &[u8]) -> Result<(), Failed>
+        requires { length bytes.now ≤ FEW }
+        ensures { Sends K.taken K.faults self.old self.new result (encode_lower bytes.now) }
+    {
+        if 2 * bytes.len() <= self.piece.room() {
+            self.piece.push_hex(bytes);
+            return Ok(());
+        }
+        let mut digits = [0u8; 2 * FEW];
+        let digits = &mut digits[..2 * bytes.len()];
+        hex::encode_to_slice(bytes, digits).unwrap();
+        self.write(digits)
+    }
+
+    /// Adds the hex digits of bytes.
+    pub(crate) fn write_hex(&mut self, bytes: &[u8]) -> Result<(), Failed>
+        ensures { Sends K.taken K.faults self.old self.new result (encode_lower bytes.now) }
+    {
+        let mut rest = bytes;
+        while !rest.is_empty() {
+            let (few, after) = rest.split_at(rest.len().min(FEW));
+            self.write_few(few)?;
+            rest = after;
+        }
+        Ok(())
+    }
+
+    /// Adds a head, which ends with the mark of a field, and the hex digits of the field's bytes.
+    pub(crate) fn write_field(&mut self, head: &[u8], bytes: &[u8]) -> Result<(), Failed>
+        ensures { Sends K.taken K.faults self.old self.new result
+            (head.now ++ encode_lower bytes.now) }
+    {
+        self.write(head)?;
+        self.write_hex(bytes)
+    }
 }

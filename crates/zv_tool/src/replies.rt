@@ -1,146 +1,192 @@
-// The text that answers commands.
-ghost use Rattle.std.specs.Prelude.{◌≡◌, ◌++◌, IfOk, OnOk};
+// The replies to commands, which are written as they run.
+ghost use Rattle.std.specs.Prelude.{◌≡◌, ◌++◌, true, OnErr, OnOk};
 ghost use Rattle.std.specs.List.{flat_map};
-ghost use Rattle.zv_tool.specs.Answers.{reply, next, last, reply_lines, answers};
+ghost use Rattle.std.specs.Option.{option_map_or};
+ghost use Rattle.hex.specs.Hex.{encode_lower};
+ghost use Rattle.zv_map2d.specs.Fits.{fits_texts};
+ghost use Rattle.zv_map2d.specs.Image.{by_bytes};
 ghost use Rattle.zv_map2d.specs.Iters.{left_of};
-ghost use Rattle.zv_tool.specs.Output.{pair_text, text};
+ghost use Rattle.zv_map2d.specs.Rows.{find, put};
+ghost use Rattle.zv_tool.specs.Answers.{reply, next};
+ghost use Rattle.zv_tool.specs.Output.{line, pair_text, text};
+ghost use Rattle.zv_tool.specs.Room.{HasRoomOf, SpendsOf, sizes_of};
+ghost use Rattle.zv_tool.specs.Sending.{Sends};
 
 use crate::command::{Command, KeyText, ValueBytes};
-use crate::commands::Commands;
-use crate::edit::{ImageMap, put_value};
-use crate::output::{push_image, push_pair, push_value};
-use std::alloc::Global;
-use zv_map2d::{Iter1, Map2dError};
-use zv_ule::{NoMemory, SliceULE, StrULE};
+use crate::device::{Failed, Sink};
+use crate::output::Output;
+use zv_map::TooLarge;
+use zv_map2d::{Iter1, ZeroMap2d};
+use zv_ule::{SliceULE, StrULE, VarRef};
 
-// Adds the reply to a look-up.
-fn push_get(
-    out: &mut Vec<u8>,
+/// The map of an image.
+pub type ImageMap<'a> = ZeroMap2d<'a, StrULE, StrULE, SliceULE<u8>>;
+
+// Writes a line of a head, which ends with the mark of a field, and a value.
+fn write_value<K: Sink>(out: &mut Output<'_, K>, head: &[u8], value: &[u8]) -> Result<(), Failed>
+    ensures { Sends K.taken K.faults out.old out.new result
+        (line (head.now ++ encode_lower value.now)) }
+{
+    out.write_field(head, value)?;
+    out.write(b"\n")
+}
+
+// Writes a pair of a row.
+fn write_pair<K: Sink>(out: &mut Output<'_, K>, key: &[u8], value: &[u8]) -> Result<(), Failed>
+    ensures { Sends K.taken K.faults out.old out.new result (pair_text (key.now, value.now)) }
+{
+    out.write_field(b" x", key)?;
+    out.write_field(b" x", value)
+}
+
+// Writes the pairs of a row.
+fn write_pairs<K: Sink>(
+    out: &mut Output<'_, K>,
+    pairs: Iter1<'_, StrULE, SliceULE<u8>>,
+) -> Result<(), Failed>
+    ensures { Sends K.taken K.faults out.old out.new result
+        (flat_map pair_text (left_of pairs.entry)) }
+{
+    for (key, value) in pairs {
+        write_pair(out, key.as_bytes(), value.as_bytes())?;
+    }
+    Ok(())
+}
+
+// Writes a line of a head and the value that a pair has, or another text where it has none.
+fn write_found<K: Sink>(
+    out: &mut Output<'_, K>,
     map: &ImageMap<'_>,
     key0: &KeyText,
     key1: &KeyText,
-) -> Result<(), NoMemory>
-    ensures { OnOk result (out.new.items
-        ≡ out.old.items ++ text (reply map.now.rows (Command.Get key0.now key1.now))) }
+    head: &[u8],
+    missing: &[u8],
+) -> Result<(), Failed>
+    ensures { Sends K.taken K.faults out.old out.new result (option_map_or
+        (λ value. line (head.now ++ encode_lower value))
+        (find by_bytes by_bytes map.now.rows key0.now key1.now) missing.now) }
 {
     match map.get_2d(&key0.as_str(), &key1.as_str()) {
-        Some(value) => push_value(out, b"some x", value.as_bytes()),
-        None => Ok(out.extend_from_slice(b"none\n")?),
+        Some(value) => write_value(out, head, value.as_bytes()),
+        None => out.write(missing),
     }
 }
 
-// Puts a value, where it fits, and adds the reply.
-fn push_put(
-    alloc: Global,
-    out: &mut Vec<u8>,
+// Replies to a look-up.
+fn get<K: Sink>(
+    out: &mut Output<'_, K>,
+    map: &ImageMap<'_>,
+    key0: &KeyText,
+    key1: &KeyText,
+) -> Result<(), Failed>
+    ensures { Sends K.taken K.faults out.old out.new result
+        (text (reply map.now.rows (Command.Get key0.now key1.now))) }
+{
+    write_found(out, map, key0, key1, b"some x", b"none\n")
+}
+
+// Whether a value for a pair fits.
+fn fits(map: &ImageMap<'_>, key0: &KeyText, key1: &KeyText, value: &ValueBytes) -> bool
+    ensures { result ≡ fits_texts map.now.rows key0.now key1.now value.now }
+{
+    map.in_order();
+    let value = VarRef::of_bytes(value.as_bytes());
+    map.would_take(&key0.as_str(), &key1.as_str(), &value)
+}
+
+// Gives a pair a value, which fits.
+fn put_fitting(map: &mut ImageMap<'_>, key0: &KeyText, key1: &KeyText, value: &ValueBytes)
+    requires fits { fits_texts map.old.rows key0.now key1.now value.now ≡ true }
+    requires room { HasRoomOf (sizes_of (Command.Put key0.now key1.now value.now)) map.old }
+    ensures rows { map.new.rows
+        ≡ put by_bytes by_bytes map.old.rows key0.now key1.now value.now }
+    ensures spends { SpendsOf (sizes_of (Command.Put key0.now key1.now value.now))
+        map.old map.new }
+{
+    map.in_order();
+    let value = VarRef::of_bytes(value.as_bytes());
+    match map.put_reserved(&key0.as_str(), &key1.as_str(), &value) {
+        Ok(_) => {}
+        Err(TooLarge) => unreachable!(),
+    }
+}
+
+// Replies to a put, and then does it, where the value fits.
+fn put<K: Sink>(
+    out: &mut Output<'_, K>,
     map: &mut ImageMap<'_>,
     key0: &KeyText,
     key1: &KeyText,
     value: &ValueBytes,
-) -> Result<(), NoMemory>
-    ensures text { OnOk result (out.new.items ≡ out.old.items
-        ++ text (reply map.old.rows (Command.Put key0.now key1.now value.now))) }
+) -> Result<(), Failed>
+    requires { HasRoomOf (sizes_of (Command.Put key0.now key1.now value.now)) map.old }
+    ensures text { Sends K.taken K.faults out.old out.new result
+        (text (reply map.old.rows (Command.Put key0.now key1.now value.now))) }
     ensures left { OnOk result (map.new.rows
         ≡ next map.old.rows (Command.Put key0.now key1.now value.now)) }
+    ensures same { OnErr result (map.new.rows ≡ map.old.rows) }
+    ensures spends { SpendsOf (sizes_of (Command.Put key0.now key1.now value.now))
+        map.old map.new }
 {
-    match put_value(alloc, map, key0, key1, value) {
-        Ok(Some(old)) => push_value(out, b"old x", old.as_bytes()),
-        Ok(None) => Ok(out.extend_from_slice(b"new\n")?),
-        Err(Map2dError::TooLarge) => Ok(out.extend_from_slice(b"toolarge\n")?),
-        Err(Map2dError::TooMany) => unreachable!(),
-        Err(Map2dError::Memory) => Err(NoMemory),
+    if !fits(map, key0, key1, value) {
+        return out.write(b"toolarge\n");
     }
+    write_found(out, map, key0, key1, b"old x", b"new\n")?;
+    put_fitting(map, key0, key1, value);
+    Ok(())
 }
 
-// Removes a pair, where it is there, and adds the reply.
-fn push_del(
-    alloc: Global,
-    out: &mut Vec<u8>,
+// Replies to a removal, and then does it.
+fn del<K: Sink>(
+    out: &mut Output<'_, K>,
     map: &mut ImageMap<'_>,
     key0: &KeyText,
     key1: &KeyText,
-) -> Result<(), NoMemory>
-    ensures text { OnOk result (out.new.items
-        ≡ out.old.items ++ text (reply map.old.rows (Command.Del key0.now key1.now))) }
+) -> Result<(), Failed>
+    requires { HasRoomOf (sizes_of (Command.Del key0.now key1.now)) map.old }
+    ensures text { Sends K.taken K.faults out.old out.new result
+        (text (reply map.old.rows (Command.Del key0.now key1.now))) }
     ensures left { OnOk result (map.new.rows
         ≡ next map.old.rows (Command.Del key0.now key1.now)) }
+    ensures same { OnErr result (map.new.rows ≡ map.old.rows) }
+    ensures spends { SpendsOf (sizes_of (Command.Del key0.now key1.now)) map.old map.new }
 {
-    match map.remove(alloc, &key0.as_str(), &key1.as_str())? {
-        Some(old) => push_value(out, b"old x", old.as_bytes()),
-        None => Ok(out.extend_from_slice(b"none\n")?),
-    }
-}
-
-// Adds the pairs of a row to its line.
-fn push_pairs(out: &mut Vec<u8>, pairs: Iter1<'_, StrULE, SliceULE<u8>>) -> Result<(), NoMemory>
-    ensures { OnOk result (out.new.items
-        ≡ out.old.items ++ flat_map pair_text (left_of pairs.entry)) }
-{
-    for (key, value) in pairs {
-        push_pair(out, key.as_bytes(), value.as_bytes())?;
-    }
+    write_found(out, map, key0, key1, b"old x", b"none\n")?;
+    map.discard(&key0.as_str(), &key1.as_str());
     Ok(())
 }
 
-// Adds the reply with a row.
-fn push_row(out: &mut Vec<u8>, map: &ImageMap<'_>, key0: &KeyText) -> Result<(), NoMemory>
-    ensures { OnOk result (out.new.items
-        ≡ out.old.items ++ text (reply map.now.rows (Command.Row key0.now))) }
+// Replies with a row.
+fn row<K: Sink>(out: &mut Output<'_, K>, map: &ImageMap<'_>, key0: &KeyText) -> Result<(), Failed>
+    ensures { Sends K.taken K.faults out.old out.new result
+        (text (reply map.now.rows (Command.Row key0.now))) }
 {
     let Some(row) = map.get0(&key0.as_str()) else {
-        return Ok(out.extend_from_slice(b"none\n")?);
+        return out.write(b"none\n");
     };
-    out.extend_from_slice(b"row")?;
-    push_pairs(out, row.iter1())?;
-    out.extend_from_slice(b"\n")?;
-    Ok(())
+    out.write(b"row")?;
+    write_pairs(out, row.iter1())?;
+    out.write(b"\n")
 }
 
-// Runs a command on the map, and adds the line of its reply.
-fn push_reply(
-    alloc: Global,
-    out: &mut Vec<u8>,
+/// Replies to a command, and then changes the map as the command says. After a failed write the
+/// map is as it was.
+pub(crate) fn run_command<K: Sink>(
+    out: &mut Output<'_, K>,
     map: &mut ImageMap<'_>,
     command: &Command,
-) -> Result<(), NoMemory>
-    ensures text { OnOk result (out.new.items
-        ≡ out.old.items ++ text (reply map.old.rows command.now)) }
+) -> Result<(), Failed>
+    requires { HasRoomOf (sizes_of command.now) map.old }
+    ensures text { Sends K.taken K.faults out.old out.new result
+        (text (reply map.old.rows command.now)) }
     ensures left { OnOk result (map.new.rows ≡ next map.old.rows command.now) }
+    ensures same { OnErr result (map.new.rows ≡ map.old.rows) }
+    ensures spends { SpendsOf (sizes_of command.now) map.old map.new }
 {
     match command {
-        Command::Get { key0, key1 } => push_get(out, map, key0, key1),
-        Command::Put { key0, key1, value } => push_put(alloc, out, map, key0, key1, value),
-        Command::Del { key0, key1 } => push_del(alloc, out, map, key0, key1),
-        Command::Row { key0 } => push_row(out, map, key0),
+        Command::Get { key0, key1 } => get(out, map, key0, key1),
+        Command::Put { key0, key1, value } => put(out, map, key0, key1, value),
+        Command::Del { key0, key1 } => del(out, map, key0, key1),
+        Command::Row { key0 } => row(out, map, key0),
     }
-}
-
-// Runs commands on the map, and gives the lines of their replies.
-fn reply_lines(
-    alloc: Global,
-    map: &mut ImageMap<'_>,
-    commands: &Commands,
-) -> Result<Vec<u8>, NoMemory>
-    ensures lines { IfOk result (λ out. out.items ≡ reply_lines map.old.rows commands.now) }
-    ensures left { OnOk result (map.new.rows ≡ last map.old.rows commands.now) }
-{
-    let mut out = Vec::new(alloc);
-    for command in commands.as_slice() {
-        push_reply(alloc, &mut out, map, command)?;
-    }
-    Ok(out)
-}
-
-/// Runs commands on the map, and gives the whole answer: a line for each, and the line of the
-/// canonical image of the map that they leave.
-pub(crate) fn answer_text(
-    alloc: Global,
-    map: &mut ImageMap<'_>,
-    commands: &Commands,
-) -> Result<Vec<u8>, NoMemory>
-    ensures { IfOk result (λ out. out.items ≡ answers map.old.rows commands.now) }
-{
-    let mut out = reply_lines(alloc, map, commands)?;
-    push_image(&mut out, map.canon_parts())?;
-    Ok(out)
 }

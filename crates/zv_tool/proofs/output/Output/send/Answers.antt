@@ -1,0 +1,10 @@
+use Rattle.std.proofs.Common.{rules, append-nil, refl, sym}
+use Rattle.std.proofs.lemmas.List.{nil_from_length}
+use Rattle.zv_tool.proofs.Sending.{sends_later}
+use Rattle.zv_tool.proofs.output.Output.send.Goals as goal
+
+pub returns-then-is_empty : goal.returns-then-is_empty
+returns-then-is_empty g c = record {
+  text = sends_later refl (sym (append-nil c.args.self.now.piece));
+  empty = nil_from_length c.args.self.now.piece (search rules);
+}

@@ -1,0 +1,12 @@
+use Rattle.std.specs.List.{flat_map}
+use Rattle.zv_map2d.specs.Iters.{left_of}
+use Rattle.zv_tool.specs.Output.{pair_text}
+use Rattle.zv_tool.proofs.Sending.{Completes}
+use Rattle.zv_tool.proofs.replies.write_pairs.Given as goal
+
+abbrev pub invariant-loop-key : goal.invariant-loop-key
+invariant-loop-key g l = record {
+  can_next : (goal.iterator-loop-key g).can_next l.key-iterator;
+  is_finite : (goal.iterator-loop-key g).is_finite l.key-iterator;
+  text : Completes g.K.Sink.taken g.K.Sink.faults l.initial.out l.out (flat_map pair_text (left_of l.fn.pairs)) (flat_map pair_text (left_of l.key-iterator));
+}

@@ -1,0 +1,71 @@
+// Room for puts.
+ghost use Rattle.std.specs.Prelude.{◌≡◌, ◌≤◌, length, OnOk};
+ghost use Rattle.zv_map2d.specs.Rows.{seconds};
+ghost use Rattle.zv_tool.specs.Room.{HasRoomOf, all_puts, put_sizes, sizes_of, total_of};
+
+use crate::command::Command;
+use crate::commands::{Commands, MAX_COMMANDS};
+use crate::replies::ImageMap;
+use std::alloc::Global;
+use zv_map2d::Map2dError;
+use zv_ule::NoMemory;
+
+/// How many puts there are, and the lengths of their elements together.
+#[derive(Drop)]
+pub(crate) struct PutSizes {
+    keys0: usize,
+    keys1: usize,
+    values: usize,
+    puts: usize,
+}
+
+impl PutSizes {
+    // Adds those of a command.
+    fn add(&mut self, command: &Command)
+        requires { total_of (all_puts self.old (sizes_of command.now)) ≤ MAX_COMMANDS }
+        ensures { self.new ≡ all_puts self.old (sizes_of command.now) }
+    {
+        if let Command::Put { key0, key1, value } = command {
+            self.keys0 += key0.len();
+            self.keys1 += key1.len();
+            self.values += value.len();
+            self.puts += 1;
+        }
+    }
+}
+
+// The sizes of the puts among commands.
+fn put_sizes(commands: &Commands) -> PutSizes
+    ensures sizes { result ≡ put_sizes commands.now }
+    ensures within { total_of result ≤ MAX_COMMANDS }
+{
+    let mut sizes = PutSizes {
+        keys0: 0,
+        keys1: 0,
+        values: 0,
+        puts: 0,
+    };
+    for command in commands.as_slice() {
+        sizes.add(command);
+    }
+    sizes
+}
+
+/// Makes the vectors of an image's map the map's own, with room for the puts among commands, so
+/// that no command takes memory.
+pub(crate) fn reserve(
+    alloc: Global,
+    map: &mut ImageMap<'_>,
+    commands: &Commands,
+) -> Result<(), NoMemory>
+    requires { length (seconds map.old.rows) ≤ 65535 }
+    ensures rows { map.new.rows ≡ map.old.rows }
+    ensures room { OnOk result (HasRoomOf (put_sizes commands.now) map.new) }
+{
+    let sizes = put_sizes(commands);
+    match map.reserve_for(alloc, sizes.keys0, sizes.keys1, sizes.values, sizes.puts) {
+        Ok(()) => Ok(()),
+        Err(Map2dError::Memory) => Err(NoMemory),
+        Err(Map2dError::TooLarge) | Err(Map2dError::TooMany) => unreachable!(),
+    }
+}
