@@ -1,9 +1,14 @@
 #!/usr/bin/env bash
-# Times what everything rests on: validation, search and the digest, beside the same work in plain Rust and
-# Debian's xxHash (where rustc, cc and libxxhash are there), one after another on this machine.
+# Times what everything rests on: validation, search, the digest, and changes of lists and maps, beside the same work in
+# plain Rust and Debian's xxHash (where rustc, cc and libxxhash are there), one after another on this machine.
 #
-# The timing program, bench/timing.txt, is a Rattle crate that is no part of the gate: it is proved and built
-# in a copy of the repository.
+#     bench/kernels.sh [PROGRAM]
+#
+# PROGRAM is one that times the same changes with the crate zerovec, by the names that bench/changes.txt prints; its
+# checksums are the same where it makes the same lists.
+#
+# The timing programs, bench/timing.txt and bench/changes.txt, are Rattle crates that are no part of the gate: they are
+# proved and built in a copy of the repository.
 set -euo pipefail
 top=$(cd "$(dirname "$0")/.." && pwd)
 copy=$(mktemp -d)
@@ -12,11 +17,15 @@ trap 'rm -rf "$copy"' EXIT
 git -C "$top" ls-files -z -- crates crates.txt HANDLES | (cd "$top" && xargs -0 cp --parents -t "$copy")
 cd "$copy"
 git init -q .
-mkdir -p crates/zv_timing/src crates/zv_timing/specs
-cp "$top/bench/timing.txt" crates/zv_timing/src/main.rt
-: > crates/zv_timing/specs/Lib.antt
-echo 'zv_timing: anyhow zv_var zv_ule zv_fixed zv_xxhash' >> crates.txt
-(cd crates/zv_timing && rt run > log 2>&1) || { cat crates/zv_timing/log; exit 1; }
+build() {
+    mkdir -p "crates/zv_$1/src" "crates/zv_$1/specs"
+    cp "$top/bench/$1.txt" "crates/zv_$1/src/main.rt"
+    : > "crates/zv_$1/specs/Lib.antt"
+    echo "zv_$1: anyhow $2" >> crates.txt
+    (cd "crates/zv_$1" && rt run > log 2>&1) || { cat "crates/zv_$1/log"; exit 1; }
+}
+build timing 'zv_var zv_ule zv_fixed zv_xxhash'
+build changes 'zv_map2d zv_owned zv_ule'
 
 if command -v rustc > /dev/null; then
     rustc -O -C target-cpu=x86-64-v2 "$top/bench/reference.rs" -o reference
@@ -26,6 +35,8 @@ if command -v cc > /dev/null && cc -O2 "$top/bench/digest.c" -lxxhash -o digest 
 for _ in 1 2; do
     echo "-- this repository"
     crates/zv_timing/out/zv_timing
+    crates/zv_changes/out/zv_changes
+    if [ $# -gt 0 ]; then echo "-- zerovec"; "$1" text16 map2d; fi
     if [ -x reference ]; then echo "-- plain Rust over std"; ./reference; fi
     if [ -x digest ]; then echo "-- xxHash's own library"; ./digest; fi
 done
