@@ -1,0 +1,7 @@
+mod Pigeons
+mod Slots
+mod Walk
+mod Links
+mod Choices
+mod Fillings
+mod Decide
