@@ -1,4 +1,5 @@
 mod Pigeons
+mod Remainders
 mod Slots
 mod Walk
 mod Links

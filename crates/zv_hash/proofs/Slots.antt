@@ -1,11 +1,13 @@
 -- Buckets and slots are below the number of hashes, and a bucket with a member has a size.
-use Rattle.std.proofs.Common.{◌≡◌, ℕ, zero, suc, ◌+◌, ◌*◌, ◌/◌, ◌%◌, ◌^◌, ◌<◌, ◌==◌, Bool, true, false, cond, List, [], ◌∷◌, length, get_or, refl, arith}
+use Rattle.std.proofs.Common.{◌≡◌, ℕ, zero, suc, ◌+◌, ◌*◌, ◌/◌, ◌%◌, ◌^◌, ◌<◌, ◌==◌, Bool, true, false, cond, List, [], ◌∷◌, length, get_or, refl, arith, inl, inr}
 use Rattle.std.specs.List.{count_by}
 use Rattle.std.proofs.lemmas.List.Recursion.{is_count_by}
 use Rattle.std.proofs.lemmas.Nat.{mod_below}
+use Rattle.std.proofs.lemmas.Bool.{cases_lt}
 use Rattle.std.proofs.lemmas.Bool.Decides.{nat_tests}
 use Rattle.zv_hash.specs.Splitting.{bucket_of, slot_of}
-use Rattle.zv_hash.specs.Placement.{IsMember, size}
+use Rattle.zv_hash.specs.Chains.{AreChains}
+use Rattle.zv_hash.specs.Placement.{IsMember, bucket_at, size}
 
 pub bucket_below : (m h : ℕ) → 0 < m → bucket_of m h < m
 unfolding bucket_of
@@ -33,3 +35,26 @@ count_pos p xs i h e = rw (← is_count_by (tally p) p refl (λ _ _. refl) xs) (
 
 pub member_size : (hs : List ℕ) (g i : ℕ) → IsMember hs g i → 0 < size hs g
 member_size hs g i m = count_pos (λ h. bucket_of (length hs) h == g) hs i m.within (let at = m.bucket in grind (arith, nat_tests))
+
+tally_none : (p : ℕ → Bool) (xs : List ℕ) → ((i : ℕ) → i < length xs → p (get_or xs i 0) ≡ false) → tally p xs ≡ 0
+unfolding tally
+tally_none p [] h = refl
+tally_none p (x ∷ xs) h = let first : p x ≡ false = h 0 (omega arith) in rw first (tally_none p xs (λ i l. h (suc i) (omega arith)))
+
+count_none : (p : ℕ → Bool) (xs : List ℕ) → ((i : ℕ) → i < length xs → p (get_or xs i 0) ≡ false) → count_by p xs ≡ 0
+unfolding tally
+count_none p xs h = rw (← is_count_by (tally p) p refl (λ _ _. refl) xs) (tally_none p xs h)
+
+differ : (a b : ℕ) → (a ≡ b → ⊥) → (a == b) ≡ false
+differ a b h = grind (arith, nat_tests)
+
+-- a bucket with a size has a first place
+pub first_member : (hs firsts nexts : List ℕ) (g : ℕ) → AreChains hs 0 firsts nexts → g < length hs → 0 < size hs g → get_or firsts g 0 < length hs
+first_member hs firsts nexts g chains within pos =
+    elim (cases_lt (get_or firsts g 0) (length hs)) [
+      | inl there ↦ there
+      | inr past ↦
+          let next = chains.first g within in
+          let none : size hs g ≡ 0 = count_none (λ h. bucket_of (length hs) h == g) hs (λ i h. differ (bucket_at hs i) g (next.none i (omega arith) (omega arith))) in
+          absurd (omega arith)
+    ]

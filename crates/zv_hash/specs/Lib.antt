@@ -3,4 +3,5 @@ pub mod Placement
 pub mod Chains
 pub mod Filling
 pub mod Refusals
+pub mod Rowed
 pub mod Rows

@@ -5,6 +5,7 @@ mod chains;
 mod error;
 pub mod laws;
 mod placement;
+mod row;
 mod search;
 mod splitting;
 

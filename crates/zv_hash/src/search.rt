@@ -1,9 +1,12 @@
 // The search for a bucket's displacement.
 ghost use Rattle.std.specs.Prelude.{◌≡◌, ℕ, ◌<◌, ◌≤◌, ◌↔◌, IsTrue, MatchBool, MatchOption, length};
+ghost use Rattle.std.specs.Prelude.{slice_index};
 ghost use Rattle.zv_hash.specs.Chains.{FitsFree};
 ghost use Rattle.zv_hash.specs.Placement.{IsCandidate, IsEarlier, IsMember, sent_to};
 
 use crate::chains::Chains;
+use crate::row::Row;
+use crate::splitting::parts_of;
 
 /// Whether a hash of the bucket before the place goes to this slot.
 fn is_shared(chains: Chains, bucket: usize, d: (u32, u32), place: usize, slot: usize) -> bool
@@ -40,9 +43,11 @@ fn fits(chains: Chains, bucket: usize, places: &[usize], d: (u32, u32)) -> bool
     true
 }
 
-/// The first displacement that sends the bucket's hashes to distinct slots that hold no place.
+/// The first displacement that sends the bucket's hashes to distinct slots that hold no place. Most
+/// fail at the slot of the first hash, which is found without a division.
 pub fn first_fit(chains: Chains, bucket: usize, places: &[usize]) -> Option<(u32, u32)>
     requires bucket { bucket < length chains.hashes.now }
+    requires some { slice_index chains.firsts.now bucket < length chains.hashes.now }
     requires len { length places.now ≡ length chains.hashes.now }
     ensures { let hs = chains.entry.hashes.now in MatchOption result
         ((d : ℕ × ℕ) → IsCandidate (length hs) d → FitsFree hs places.now bucket d → ⊥)
@@ -50,10 +55,13 @@ pub fn first_fit(chains: Chains, bucket: usize, places: &[usize]) -> Option<(u32
         ((e : ℕ × ℕ) → IsCandidate (length hs) e → IsEarlier e d →
         FitsFree hs places.now bucket e → ⊥)) }
 {
-    let end = chains.count().max(2);
-    for d0 in 0..chains.count() {
-        for d1 in 0..end {
-            if (d0, d1) != (0, 0) && fits(chains, bucket, places, (d0, d1)) {
+    let slots = chains.count();
+    let first = parts_of(chains.hashes[chains.firsts[bucket]]);
+    for d0 in 0..slots {
+        let row = Row::new(slots, d0, first);
+        for d1 in 0..slots.max(2) {
+            let free = places[row.slot(d1) as usize] >= chains.hashes.len();
+            if free && (d0, d1) != (0, 0) && fits(chains, bucket, places, (d0, d1)) {
                 return Some((d0, d1));
             }
         }
