@@ -5,7 +5,7 @@
 //! [`Shelf`](shelf::Shelf) is a buffer of bytes that counts what is written into it.
 #![tactic(auto)]
 
-mod encoded;
+pub mod encoded;
 pub mod error;
 pub mod laws;
 mod moves;
@@ -19,6 +19,7 @@ mod splice;
 pub mod vector;
 mod writes;
 
+pub use encoded::Encoded;
 pub use error::VecError;
 pub use owned::{Change, VarZeroVecOwned};
 pub use vector::{VarZeroVec, VarZeroVec16, VarZeroVec32};

@@ -14,12 +14,12 @@ ghost use Rattle.zv_var.specs.Serialize.{serialized_len};
 ghost use Rattle.zv_var.specs.Views.{bytes_of, list_of, parts_of};
 ghost use Rattle.zv_owned.specs.Changes.{HasPlace, IsBelow, OnMemory, changed, takes_change};
 ghost use Rattle.zv_owned.specs.Owned.{Owned, TooLargeUnless};
-ghost use Rattle.zv_owned.specs.Size.{takes_insert, takes_replace};
+ghost use Rattle.zv_owned.specs.Size.{takes_insert, takes_pushes, takes_replace};
 ghost use Rattle.zv_owned.specs.Vectors.{bytes_in, list_in, spare_in};
 
 use crate::error::VecError;
 use crate::owned::{Change, VarZeroVecOwned, room_for};
-use crate::size::{growth_of, takes_change, takes_insert, takes_replace};
+use crate::size::{growth_of, takes_change, takes_elements, takes_insert, takes_replace};
 use std::alloc::Global;
 use std::marker::Model;
 use zv_ule::{
@@ -336,6 +336,15 @@ impl<'a, T: ZvKind, F: VarZeroVecFormat> VarZeroVec<'a, T, F> {
         ensures { result ≡ takes_insert F.W (vector_list self.now) len }
     {
         takes_insert(self.as_slice(), len)
+    }
+
+    /// Whether the size rule of [`VarZeroVecOwned`] takes the list's elements one after another into
+    /// an empty list, which it then does in any order. It reads the list's length and size.
+    #[inline]
+    pub fn takes_elements(&self) -> bool
+        ensures { result ≡ takes_pushes (takes_insert F.W) [] (vector_list self.now) }
+    {
+        takes_elements(self.as_slice())
     }
 
     /// Whether the size rule of [`VarZeroVecOwned`] takes an element of `len` bytes in place of the
