@@ -6,7 +6,8 @@ use crate::vector::VarZeroVec;
 use zv_ule::{EncodeAsVarULE, VarZeroVecFormat, ZvKind};
 use zv_var::VarZeroSliceULE;
 
-impl<T: ZvKind, F: VarZeroVecFormat> EncodeAsVarULE<VarZeroSliceULE<T, F>> for VarZeroVecOwned<T, F> {
+impl<T: ZvKind, F: VarZeroVecFormat> EncodeAsVarULE<VarZeroSliceULE<T, F>>
+    for VarZeroVecOwned<T, F> {
     ghost fits = { λ _. true };
 
     ghost spelling = { λ v. v.bytes };
@@ -27,7 +28,8 @@ impl<T: ZvKind, F: VarZeroVecFormat> EncodeAsVarULE<VarZeroSliceULE<T, F>> for V
     }
 }
 
-impl<T: ZvKind, F: VarZeroVecFormat> EncodeAsVarULE<VarZeroSliceULE<T, F>> for VarZeroVec<'_, T, F> {
+impl<T: ZvKind, F: VarZeroVecFormat> EncodeAsVarULE<VarZeroSliceULE<T, F>>
+    for VarZeroVec<'_, T, F> {
     ghost use Rattle.zv_owned.specs.Vectors.{vector_bytes};
 
     ghost fits = { λ _. true };
