@@ -84,7 +84,7 @@ def draw_speed(path):
     rows = [line.split("\t") for line in lines if line and not line.startswith("#")]
     note = next(line[1:].strip() for line in lines if line.startswith("#"))
     left, scale, step = 330, 300, 24
-    drawing = Drawing(left + scale * 2 + 40, step * len(rows) + 74)
+    drawing = Drawing(left + scale * 2 + 40, step * len(rows) + 84)
     drawing.text(12, 22, "Time here as a share of zerovec's", 15, "start", "bold")
     for number, (name, here, there, unit) in enumerate(rows):
         y = 36 + step * number
@@ -95,7 +95,7 @@ def draw_speed(path):
     bottom = 36 + step * len(rows)
     drawing.items.append(f'<line x1="{left + scale}" y1="32" x2="{left + scale}" y2="{bottom + 4}" stroke="#a00"/>')
     drawing.text(left + scale, bottom + 18, "zerovec", 11)
-    drawing.text(12, bottom + 30, note, 11, "start")
+    drawing.text(12, bottom + 38, note, 11, "start")
     drawing.save(path, "Times beside the crate zerovec")
 
 
