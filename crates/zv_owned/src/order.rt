@@ -54,7 +54,8 @@ impl<'a, T: ZvOrd, F: VarZeroVecFormat> VarZeroVec<'a, T, F> {
     /// Whether the list compares as equal to another, as [`VarZeroSlice::same`].
     #[inline]
     pub fn same(&self, other: VarZeroSlice<'_, T, F>) -> bool
-        ensures { IsTrue result ↔ (slice_cmp T.cmp (vector_list self.now) (list_of other.entry) ≡ Equal) }
+        ensures { IsTrue result
+            ↔ (slice_cmp T.cmp (vector_list self.now) (list_of other.entry) ≡ Equal) }
     {
         self.as_slice().same(other)
     }

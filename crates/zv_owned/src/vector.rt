@@ -338,8 +338,8 @@ impl<'a, T: ZvKind, F: VarZeroVecFormat> VarZeroVec<'a, T, F> {
         takes_insert(self.as_slice(), len)
     }
 
-    /// Whether the size rule of [`VarZeroVecOwned`] takes the list's elements one after another into
-    /// an empty list, which it then does in any order. It reads the list's length and size.
+    /// Whether the size rule of [`VarZeroVecOwned`] takes the list's elements one after another
+    /// into an empty list, which it then does in any order. It reads the list's length and size.
     #[inline]
     pub fn takes_elements(&self) -> bool
         ensures { result ≡ takes_pushes (takes_insert F.W) [] (vector_list self.now) }

@@ -1,6 +1,7 @@
 // Values that are written as a list in a format.
 ghost use Rattle.std.specs.Prelude.{◌≡◌, ◌≢◌, ℕ, ◌+◌, ◌-◌, ◌*◌, ◌^◌, ◌<◌, ◌≤◌, List, [], length};
-ghost use Rattle.std.specs.Prelude.{map, min, None, Some, true, IsTrue, IfOk, IfSome, IfNone, OnErr};
+ghost use Rattle.std.specs.Prelude.{map, min, None, Some, true, IsTrue, IfOk, IfSome, IfNone};
+ghost use Rattle.std.specs.Prelude.{OnErr};
 ghost use Rattle.std.specs.Prelude.{is_some, OnOk};
 ghost use Rattle.std.specs.List.{concat, flat_map, list_all};
 ghost use Rattle.std.specs.Option.{option_map};

@@ -1,4 +1,5 @@
-use Rattle.std.proofs.Common.{◌≡◌, ℕ, ◌+◌, ◌<◌, Bool, ◌&&◌, List, [], ◌∷◌, length, drop, get_or, Option, Some, None, MatchOption, is_some, not, true, false, ap, sym, ◌∙◌}
+use Rattle.std.proofs.Common.{◌≡◌, ℕ, ◌+◌, ◌<◌, Bool, ◌&&◌, List, [], ◌∷◌, length, drop, get_or, Option, Some, None, MatchOption, is_some, not, true, false, ap}
+use Rattle.std.proofs.Common.{sym, ◌∙◌}
 use Rattle.std.proofs.lemmas.List.{drop_all, drop_more}
 use Rattle.std.specs.Cmp.Lexicographic.{pointwise}
 use Rattle.std.specs.Ordering.{is_eq}
@@ -29,11 +30,13 @@ module _ {A B : Type 0} (E : A → B → Bool) where
 told : (g : _) (c : After-is_eq g) → c.is_eq.result ≡ is_same g.T.ZvOrd.cmp g.Q.ZvArg.bytes (element_of c.in-Some.element) c.value-item.result
 told g c = c.is_eq.ensures ∙ ap is_eq c.compare_with_element.ensures
 
-next : (g : _) (c : After-is_eq g) → pointwise (is_same g.T.ZvOrd.cmp g.Q.ZvArg.bytes) (left_of c.loop-value.elements) (drop c.loop-value.value-index c.args.other.now) ≡
+next : (g : _) (c : After-is_eq g) → pointwise (is_same g.T.ZvOrd.cmp g.Q.ZvArg.bytes)
+    (left_of c.loop-value.elements) (drop c.loop-value.value-index c.args.other.now) ≡
     (c.is_eq.result && pointwise (is_same g.T.ZvOrd.cmp g.Q.ZvArg.bytes) (left_of c.next.new.self) (drop (c.loop-value.value-index + 1) c.args.other.now))
 next g c =
     let equal = is_same g.T.ZvOrd.cmp g.Q.ZvArg.bytes in
-    step equal (left_of c.loop-value.elements) (left_of c.next.new.self) c.args.other.now c.loop-value.value-index (element_of c.in-Some.element) c.value-item.result
+    step equal (left_of c.loop-value.elements) (left_of c.next.new.self) c.args.other.now c.loop-value.value-index
+    (element_of c.in-Some.element) c.value-item.result
     c.in-Some.ensures.steps c.loop-value-test.true c.value-item.is
     ∙ ap (λ (b : Bool). b && pointwise equal (left_of c.next.new.self) (drop (c.loop-value.value-index + 1) c.args.other.now)) (sym (told g c))
 
@@ -56,6 +59,7 @@ loop-value-preserved g c =
 pub returns : goal.returns
 returns g c =
     let equal = is_same g.T.ZvOrd.cmp g.Q.ZvArg.bytes in
-    ends equal element_of c.next-2.result (left_of c.loop-value.elements) (left_of c.next-2.new.self) c.next-2.ensures.steps c.is_none.result (sym c.is_none.ensures)
+    ends equal element_of c.next-2.result (left_of c.loop-value.elements) (left_of c.next-2.new.self) c.next-2.ensures.steps
+    c.is_none.result (sym c.is_none.ensures)
     ∙ (ap (pointwise equal (left_of c.loop-value.elements)) (sym (drop_all c.loop-value.value-index c.args.other.now c.loop-value-test.false))
     ∙ c.loop-value.invariant.same)
