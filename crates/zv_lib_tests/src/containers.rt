@@ -24,7 +24,10 @@ fn finds_numbers<C: ZeroVecSearch<u16>>(rt: &impl Abort, list: &C) {
 fn finds_numbers_by<C: ZeroVecSearchBy<u16>>(rt: &impl Abort, list: &C) {
     assert!(rt; list.zvl_binary_search_by(|element| element.cmp(&[5, 0].as_slice())) == Ok(2));
     for (end, place) in [(3, Some(Err(1))), (4, None)] {
-        assert!(rt; list.zvl_binary_search_in_range_by(|element| element.cmp(&[4, 0].as_slice()), 1..end) == place);
+        assert!(rt;
+            list.zvl_binary_search_in_range_by(|element| element.cmp(&[4, 0].as_slice()), 1..end)
+                == place
+        );
     }
 }
 
@@ -78,7 +81,9 @@ fn shows_numbers(rt: &impl Abort, view: KvSlice<'_, u16>) {
         panic!(rt; "there are four elements");
     };
     assert!(rt; element.value() == 5);
-    assert!(rt; <KvSlice<'_, u16> as ZeroVecSearch<u16>>::t_cmp_get(&4, &element) == Ordering::Less);
+    assert!(rt;
+        <KvSlice<'_, u16> as ZeroVecSearch<u16>>::t_cmp_get(&4, &element) == Ordering::Less
+    );
     assert!(rt; view.get(4).is_none());
 }
 
