@@ -1,4 +1,4 @@
-//! Tests of the crates of lists, vectors, containers, maps and digests at concrete kinds.
+//! Tests of the crates of lists, vectors, containers, maps, digests and hashes at concrete kinds.
 #![tactic(auto)]
 
 #[cfg(test)]
@@ -9,6 +9,8 @@ mod counted;
 mod digests;
 #[cfg(test)]
 mod fixed;
+#[cfg(test)]
+mod hashes;
 #[cfg(test)]
 mod lists;
 #[cfg(test)]
