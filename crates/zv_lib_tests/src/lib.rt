@@ -10,9 +10,13 @@ mod digests;
 #[cfg(test)]
 mod fixed;
 #[cfg(test)]
+mod formats;
+#[cfg(test)]
 mod lists;
 #[cfg(test)]
 mod maps;
+#[cfg(test)]
+mod nested;
 #[cfg(test)]
 mod splices;
 #[cfg(test)]
