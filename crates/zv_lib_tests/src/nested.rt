@@ -26,7 +26,7 @@ fn lists_of_lists_are_written(rt: HostRuntime) -> Result<(), Fail> {
     // A list of no text has a count.
     let lists: [&[&str]; 2] = [&[], &["a"]];
     let owned = VarZeroVecOwned::<Texts, Index16>::try_from_elements(alloc, &lists)?;
-    assert_eq!(rt; owned.as_bytes(), [2, 0, 2, 0, 0, 0, 1, 0, 97].as_slice());
+    assert!(rt; owned.as_bytes() == [2, 0, 2, 0, 0, 0, 1, 0, 97].as_slice());
     Ok(())
 }
 
@@ -45,7 +45,7 @@ fn a_list_is_written_as_its_own_bytes(rt: HostRuntime) -> Result<(), Fail> {
 #[test]
 fn lists_of_lists_are_read(rt: HostRuntime) -> Result<(), Fail> {
     let lists = VarZeroSliceULE::as_varzeroslice(VarRef::<'_, Lists>::new(&TWO_LISTS)?);
-    assert_eq!(rt; lists.len(), 2);
+    assert!(rt; lists.len() == 2);
     let Some(first) = lists.get(0) else {
         panic!(rt; "there are two lists");
     };
@@ -53,17 +53,17 @@ fn lists_of_lists_are_read(rt: HostRuntime) -> Result<(), Fail> {
     assert!(rt; texts.same_slice(&["a", "b"]));
     assert!(rt; !texts.same_slice(&["a", "c"]));
     assert!(rt; !texts.same_slice(&["a"]));
-    assert_eq!(rt; texts.as_view().as_bytes(), &TWO_LISTS[8..14]);
+    assert!(rt; texts.as_view().as_bytes() == &TWO_LISTS[8..14]);
     Ok(())
 }
 
 // Bytes are refused as a list of lists, and as one in a list of such.
 fn is_refused(rt: &impl Abort, bytes: &[u8]) {
     let error = UleError::parse(TyName::VarZeroSlice);
-    assert_eq!(rt; Lists::check(bytes), Err(error));
-    assert_eq!(rt;
-        VarZeroVecComponents::<'_, Texts, Index32>::parse_bytes(bytes).err(),
-        Some(VarZeroVecFormatError::Values(error))
+    assert!(rt; Lists::check(bytes) == Err(error));
+    assert!(rt;
+        VarZeroVecComponents::<'_, Texts, Index32>::parse_bytes(bytes).err()
+            == Some(VarZeroVecFormatError::Values(error))
     );
 }
 
@@ -91,8 +91,8 @@ fn compares<K: ZvOrd>(
 {
     let left = VarRef::<'_, K>::new(left)?;
     let right = VarRef::<'_, K>::new(right)?;
-    assert_eq!(rt; left.order(right), order);
-    assert_eq!(rt; left.same(right), order.is_eq());
+    assert!(rt; left.order(right) == order);
+    assert!(rt; left.same(right) == order.is_eq());
     Ok(())
 }
 
@@ -127,7 +127,7 @@ fn vectors_compare_with_lists(rt: HostRuntime) -> Result<(), Fail> {
     assert!(rt; owned.same(list.as_slice()));
     assert!(rt; list.same_slice(&["a", "b"]));
     let shorter = VarZeroVecOwned::<StrULE, Index16>::try_from_elements(alloc, &["a"])?;
-    assert_eq!(rt; list.order(shorter.as_slice()), Ordering::Greater);
-    assert_eq!(rt; shorter.order(list.as_slice()), Ordering::Less);
+    assert!(rt; list.order(shorter.as_slice()) == Ordering::Greater);
+    assert!(rt; shorter.order(list.as_slice()) == Ordering::Less);
     Ok(())
 }
