@@ -118,6 +118,7 @@ fn has_texts_after_count<F: VarZeroVecFormat>(
     bytes: &[u8],
     texts: &[&str],
 ) -> Result<(), Fail> {
+    assert!(rt; texts.len() < 256);
     let list = VarZeroLengthlessSlice::<'_, StrULE, F>::parse_bytes(texts.len() as u32, bytes)?;
     assert!(rt; list.as_bytes() == bytes);
     for (index, text) in texts.iter().enumerate() {
