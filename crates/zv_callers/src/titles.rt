@@ -2,8 +2,8 @@
 ghost use Rattle.std.specs.Prelude.{◌≡◌, ◌++◌, ◌∷◌, [], IfOk, OnErr, OnOk, Some, option_map};
 ghost use Rattle.std.specs.List.{slice_get};
 ghost use Rattle.std.specs.Result.{result_err};
-ghost use Rattle.zv_ule.specs.Views.{element_of};
 ghost use Rattle.zv_ule.specs.Kinds.{text_fault};
+ghost use Rattle.zv_ule.specs.Views.{element_of};
 ghost use Rattle.zv_var.specs.Format.{elements, list_fault};
 ghost use Rattle.zv_var.specs.Nested.{slice_fault};
 ghost use Rattle.zv_owned.specs.Vectors.{vector_list};
@@ -24,7 +24,7 @@ pub fn read_titles(bytes: &[u8]) -> Result<Titles<'_>, UleError>
 }
 
 /// The title at a place.
-pub fn title<'n>(titles: &'n Titles<'_>, place: usize) -> Option<VarRef<'n, StrULE>>
+pub fn title<'t>(titles: &'t Titles<'_>, place: usize) -> Option<VarRef<'t, StrULE>>
     ensures { option_map element_of result ≡ slice_get (vector_list titles.now) place }
 {
     titles.get(place)
