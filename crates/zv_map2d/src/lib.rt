@@ -19,10 +19,11 @@ pub mod map;
 mod order;
 mod parse;
 pub mod parts;
-mod place;
+pub mod place;
 
 pub use cursor::{Iter1, ZeroMap2dCursor};
 pub use error::{EditError, Map2dError};
 pub use image::{cut_parts, parse_image};
 pub use map::{Map2dOver, ZeroMap2d};
 pub use parts::Parts;
+pub use place::Place;
