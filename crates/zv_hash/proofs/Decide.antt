@@ -116,8 +116,10 @@ choice_tells hs ds g e =
       candidate = record { first = is.0; second = is.1.0; some = is.1.1 };
       fits = fits_tells hs ds g d front.1;
       first = λ a c before f.
-          let at = every_tells (λ b. passed hs ds g a.0 b) (max n 2) (every_tells (λ a. every (λ b. passed hs ds g a b) (max n 2)) n parts.1 a.0 c.first) a.1 c.second in
-          unfit _ (fits hs ds g a) (joined _ _ (earlier_from a.0 a.1 d.0 d.1 before) (candidate_from n a.0 a.1 c.first c.second c.some)) (fits_from hs ds g a f) at;
+          let at = every_tells (λ b. passed hs ds g a.0 b) (max n 2)
+          (every_tells (λ a. every (λ b. passed hs ds g a b) (max n 2)) n parts.1 a.0 c.first) a.1 c.second in
+          unfit _ (fits hs ds g a)
+          (joined _ _ (earlier_from a.0 a.1 d.0 d.1 before) (candidate_from n a.0 a.1 c.first c.second c.some)) (fits_from hs ds g a f) at;
     }
 
 abbrev pub chosen : List ℕ → List (ℕ × ℕ) → Bool
@@ -144,5 +146,6 @@ chosen_tells hs ds e =
     record {
       len = same_length _ _ parts.0;
       choices = λ g h pos. choice_tells hs ds g (some_size (size hs g) _ (choice hs ds g) pos (at g h));
-      empty = λ g h none. let both_zero = no_size (size hs g) (displacement ds g).0 (displacement ds g).1 (choice hs ds g) none (at g h) in zeros (displacement ds g) both_zero.0 both_zero.1;
+      empty = λ g h none. let both_zero = no_size (size hs g) (displacement ds g).0 (displacement ds g).1 (choice hs ds g) none (at g h) in
+          zeros (displacement ds g) both_zero.0 both_zero.1;
     }

@@ -1,15 +1,18 @@
 -- How a table is filled, from the first bucket to the last.
-use Rattle.std.proofs.Common.{◌≡◌, ℕ, ◌+◌, ◌<◌, ◌≤◌, ◌==◌, ◌&&◌, ◌||◌, ◌⊎◌, inl, inr, cond, true, false, Some, None, List, length, get_or, set, replicate, refl, ap, subst, sym, ◌∙◌, arith, length-set, get_or-set_same, get_or-set_other}
+use Rattle.std.proofs.Common.{◌≡◌, ℕ, ◌+◌, ◌<◌, ◌≤◌, ◌==◌, ◌&&◌, ◌||◌, ◌⊎◌, inl, inr, cond, true, false, Some, None, List, length, get_or, set, replicate, refl}
+use Rattle.std.proofs.Common.{ap, subst, sym, ◌∙◌, arith, length-set, get_or-set_same, get_or-set_other}
 use Rattle.std.proofs.lemmas.Bool.{cases_eq, cases_lt}
 use Rattle.std.proofs.lemmas.Bool.Decides.{nat_tests}
 use Rattle.std.proofs.lemmas.List.{get_or-replicate, length-replicate}
 use Rattle.zv_hash.specs.Splitting.{parts}
-use Rattle.zv_hash.specs.Placement.{IsMember, bucket_at, size, displacement, sent_to, slot_at, IsBefore, IsCandidate, IsEarlier, IsChoice, IsStuck, Chosen, Placed}
+use Rattle.zv_hash.specs.Placement.{IsMember, bucket_at, size, displacement, sent_to, slot_at, IsBefore, IsCandidate, IsEarlier, IsChoice, IsStuck, Chosen}
+use Rattle.zv_hash.specs.Placement.{Placed}
 use Rattle.zv_hash.specs.Chains.{FitsFree}
 use Rattle.zv_hash.specs.Filling.{IsDone, Filled}
 use Rattle.zv_hash.proofs.Pigeons.{pigeons}
 use Rattle.zv_hash.proofs.Slots.{bucket_below, slot_below, member_size}
-use Rattle.zv_hash.proofs.Choices.{irreflexive, asymmetric, done_before, before_done, fits_free, free_fits, same_fits, same_choice, new_choice, other_slot, own_slot}
+use Rattle.zv_hash.proofs.Choices.{irreflexive, asymmetric, done_before, before_done, fits_free, free_fits, same_fits, same_choice, new_choice, other_slot}
+use Rattle.zv_hash.proofs.Choices.{own_slot}
 
 -- an empty table
 pub none_filled : (hs : List ℕ) (ds : List (ℕ × ℕ)) (places : List ℕ) (s : ℕ) → ds ≡ replicate (length hs) (0, 0) → places ≡ replicate (length hs) (length hs)
@@ -108,7 +111,8 @@ module _ (hs : List ℕ) (ds : List (ℕ × ℕ)) (old new : List ℕ) (g : ℕ)
               (new_choice hs (set ds g d) g d (get_or-set_same ds g d (0, 0) (omega arith)) candidate
               (same_fits hs ds (set ds g d) g d g_slot (free_fits hs ds old g d filled fits))
               (λ e c earlier now. first e c earlier (fits_free hs ds old g e filled (same_fits hs (set ds g d) ds g e (λ j w b. sym (g_slot j w b)) now))))
-          | inr before ↦ same_choice hs ds (set ds g d) f (get_or-set_other ds g f d (0, 0) (done_other f before)) (λ j w b. before_slot f j before b) (filled.choices f h before)
+          | inr before ↦ same_choice hs ds (set ds g d) f (get_or-set_other ds g f d (0, 0) (done_other f before))
+              (λ j w b. before_slot f j before b) (filled.choices f h before)
         ];
         empty = λ f h undone.
             get_or-set_other ds g f d (0, 0) (λ same. undone (inr (ap (size hs) same, omega arith)))

@@ -1,5 +1,6 @@
 -- Buckets and slots are below the number of hashes, and a bucket with a member has a size.
-use Rattle.std.proofs.Common.{◌≡◌, ℕ, zero, suc, ◌+◌, ◌*◌, ◌/◌, ◌%◌, ◌^◌, ◌<◌, ◌==◌, Bool, true, false, cond, List, [], ◌∷◌, length, get_or, refl, arith, inl, inr}
+use Rattle.std.proofs.Common.{◌≡◌, ℕ, zero, suc, ◌+◌, ◌*◌, ◌/◌, ◌%◌, ◌^◌, ◌<◌, ◌==◌, Bool, true, false, cond, List, [], ◌∷◌, length, get_or, refl, arith, inl}
+use Rattle.std.proofs.Common.{inr}
 use Rattle.std.specs.List.{count_by}
 use Rattle.std.proofs.lemmas.List.Recursion.{is_count_by}
 use Rattle.std.proofs.lemmas.Nat.{mod_below}
@@ -55,6 +56,7 @@ first_member hs firsts nexts g chains within pos =
       | inl there ↦ there
       | inr past ↦
           let next = chains.first g within in
-          let none : size hs g ≡ 0 = count_none (λ h. bucket_of (length hs) h == g) hs (λ i h. differ (bucket_at hs i) g (next.none i (omega arith) (omega arith))) in
+          let none : size hs g ≡ 0 = count_none (λ h. bucket_of (length hs) h == g) hs
+          (λ i h. differ (bucket_at hs i) g (next.none i (omega arith) (omega arith))) in
           absurd (omega arith)
     ]

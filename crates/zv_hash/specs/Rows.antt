@@ -1,4 +1,4 @@
--- Placements worked out by hand, by the definitions.
+-- Worked placements, by the definitions. A separate model of the rules placed the keys 0 to 9.
 use Rattle.std.specs.Prelude.{◌≡◌, ℕ, ◌+◌, ◌*◌, ◌^◌, Some, None, List, [], ◌∷◌, map}
 use Rattle.std.specs.Int.{w32, to_le_bytes}
 use Rattle.zv_xxhash.specs.Digest.{xxh64}

@@ -1,4 +1,4 @@
-// What the definitions say of lists that were worked out by hand.
+// What the definitions say of worked lists.
 ghost use Rattle.zv_hash.specs.Rows.{EqualHashes, HigherFirst, IndexOfNone, IndexOfParts};
 ghost use Rattle.zv_hash.specs.Rows.{IndexWraps, KeyHashes, LargerFirst, OneBucket, OneHash};
 ghost use Rattle.zv_hash.specs.Rows.{SameSlot, SplitInThree, TenKeys, ThreeKeys};
@@ -12,7 +12,7 @@ pub fn worked_indices()
     ensures none { IndexOfNone }
 {}
 
-/// Placements that were worked out by hand.
+/// Placements that were worked out by hand, and by a model of the rules for the keys 0 to 9.
 pub fn worked_placements()
     ensures one { OneHash }
     ensures equal { EqualHashes }

@@ -1,5 +1,6 @@
 // The placement of hashes in slots.
-ghost use Rattle.std.specs.Prelude.{◌≡◌, ℕ, ◌+◌, ◌<◌, ◌≤◌, ◌^◌, ◌⊎◌, MatchResult, length, replicate};
+ghost use Rattle.std.specs.Prelude.{◌≡◌, ℕ, ◌+◌, ◌<◌, ◌≤◌, ◌^◌, ◌⊎◌, MatchResult, length};
+ghost use Rattle.std.specs.Prelude.{replicate};
 ghost use Rattle.std.specs.Prelude.{slice_index, vec_len};
 ghost use Rattle.zv_hash.specs.Chains.{FitsFree};
 ghost use Rattle.zv_hash.specs.Filling.{Filled};

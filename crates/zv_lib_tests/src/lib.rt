@@ -10,11 +10,15 @@ mod digests;
 #[cfg(test)]
 mod fixed;
 #[cfg(test)]
+mod formats;
+#[cfg(test)]
 mod hashes;
 #[cfg(test)]
 mod lists;
 #[cfg(test)]
 mod maps;
+#[cfg(test)]
+mod nested;
 #[cfg(test)]
 mod splices;
 #[cfg(test)]

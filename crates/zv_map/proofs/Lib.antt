@@ -1,4 +1,6 @@
 pub mod Ascents
 pub mod FixedLists
+pub mod Permuted
 pub mod Places
+pub mod Ranges
 pub mod VariableLists

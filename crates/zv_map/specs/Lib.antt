@@ -1,7 +1,10 @@
 pub mod Forms
+pub mod Iters
 pub mod Keys
 pub mod Laws
 pub mod Maps
+pub mod Permuted
 pub mod Refusals
 pub mod Reserved
+pub mod Vectors
 pub mod Views

@@ -135,6 +135,11 @@ impl<'a, T: AsULE> ZvContainer<T> for ZeroVec<'a, T> {
     }
 
     #[inline]
+    fn zvl_takes_elements(&self) -> bool {
+        true
+    }
+
+    #[inline]
     fn zvl_clear(&mut self) {
         self.remove_all();
     }

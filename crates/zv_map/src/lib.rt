@@ -8,17 +8,23 @@
 //! name ([`MapForm`]). A [`KvSlice`] views the list of any of them.
 #![tactic(auto)]
 
+pub mod copied;
 pub mod error;
 mod fixed;
+pub mod iter;
 mod kv;
 pub mod laws;
+pub mod permute;
 pub mod predicate;
 pub mod search;
 pub mod variable;
 pub mod vecs;
 pub mod view;
 
+pub use copied::{ZeroMapCopied, ZeroMapCopiedValues};
 pub use error::{MapError, TooLarge};
+pub use iter::{KvSliceIter, ZeroMapIter, ZeroMapKeys, ZeroMapValues};
+pub use permute::ZeroVecPermute;
 pub use predicate::ZeroVecSearchBy;
 pub use search::ZeroVecSearch;
 pub use variable::MapForm;

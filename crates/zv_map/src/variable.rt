@@ -196,6 +196,11 @@ impl<'a, T: ZvKind, F: MapForm> ZvContainer<T> for VarZeroVec<'a, T, F> {
     }
 
     #[inline]
+    fn zvl_takes_elements(&self) -> bool {
+        self.takes_elements()
+    }
+
+    #[inline]
     fn zvl_clear(&mut self) {
         self.clear();
     }

@@ -145,6 +145,11 @@ pub trait ZvContainer<T: ZvKind>: ZeroVecLike<T> {
         requires { index < length (Self.list self.now) }
         ensures { result ≡ takes_replace (Self.list self.now) index len };
 
+    /// Whether an empty list takes the elements one after another by the container's size rule,
+    /// which it then does in any order. A list that was read may be larger than one that is built.
+    fn zvl_takes_elements(&self) -> bool
+        ensures { result ≡ takes_pushes takes_insert [] (Self.list self.now) };
+
     /// The empty list, with the variant unchanged. It takes no memory and lowers no spare.
     fn zvl_clear(&mut self)
         ensures list { Self.list self.new ≡ [] }

@@ -1,5 +1,6 @@
 // Views of containers.
-ghost use Rattle.std.specs.Prelude.{◌≡◌, ⊤, ℕ, ◌%◌, ◌==◌, ◌<◌, ◌≤◌, List, [], length, Option, None};
+ghost use Rattle.std.specs.Prelude.{◌≡◌, ⊤, ℕ, ◌%◌, ◌==◌, ◌<◌, ◌≤◌, ◌↔◌, List, [], length, Option};
+ghost use Rattle.std.specs.Prelude.{None};
 ghost use Rattle.std.specs.Prelude.{IsTrue};
 ghost use Rattle.std.specs.List.{slice_get};
 ghost use Rattle.std.specs.Option.{option_map};
@@ -190,6 +191,34 @@ impl<'b, T: ZvKind> KvSlice<'b, T> {
             Form::Index16 => VarZeroSlice::<T, Index16>::of_valid(self.bytes).get(index),
             Form::Index32 => VarZeroSlice::<T, Index32>::of_valid(self.bytes).get(index),
         }
+    }
+
+    /// The element at a place that is within the list. It lives as long as the bytes.
+    #[inline]
+    pub fn at(self, index: usize) -> VarRef<'b, T>
+        requires { index < length (list_of self) }
+        ensures { element_of result ≡ nth (list_of self.entry) index }
+    {
+        match self.get(index) {
+            Some(element) => element,
+            None => unreachable!(),
+        }
+    }
+
+    /// Whether two lists have the same elements, each the same bytes, whatever their forms.
+    pub fn same(self, other: KvSlice<'_, T>) -> bool
+        ensures { IsTrue result ↔ (list_of self.entry ≡ list_of other.entry) }
+    {
+        let len = self.len();
+        if other.len() != len {
+            return false;
+        }
+        for index in 0..len {
+            if self.at(index).as_bytes() != other.at(index).as_bytes() {
+                return false;
+            }
+        }
+        true
     }
 }
 

@@ -8,7 +8,6 @@ pub mod PairPlaces
 pub mod Parsed
 pub mod Places
 pub mod Room
-pub mod RowPairs
 pub mod Seen
 pub mod Splices
 pub mod Standing

@@ -5,7 +5,6 @@ pub mod Fits
 pub mod Frame
 pub mod Image
 pub mod ImageRows
-pub mod Iters
 pub mod Keys
 pub mod Laws
 pub mod Locales

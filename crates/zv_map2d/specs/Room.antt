@@ -1,14 +1,10 @@
 -- Changes of a map that take no memory: the room that they need, and what they leave of it.
 use Rattle.std.specs.Prelude.{◌≡◌, ◌≤◌, ℕ, ◌+◌, ◌*◌, length, true}
-use Rattle.zv_map.specs.Reserved.{HasRoom}
+pub use Rattle.zv_map.specs.Vectors.{CanGrow, Spends}
 use Rattle.zv_map2d.specs.Rows.{seconds}
-use Rattle.zv_map2d.specs.Views.{Map2d, Vector, parts_of}
+use Rattle.zv_map2d.specs.Views.{Map2d, parts_of}
 
--- a vector owns its bytes, and can grow by n of them without memory
-abbrev pub CanGrow : Vector → ℕ → Type 0
-CanGrow v n = HasRoom v.owned v.spare n
-
--- and so each vector of a map, by so many
+-- each vector of a map owns its bytes, and can grow by so many of them without memory
 pub record CanGrowBy (bytes0 ends bytes1 bytes2 : ℕ) (m : Map2d) : Type 0 where
   pub keys0 : CanGrow m.keys0 bytes0
   pub joiner : CanGrow m.joiner ends
@@ -31,13 +27,8 @@ pub record IsOwned (m : Map2d) : Type 0 where
   pub keys1 : m.keys1.owned ≡ true
   pub values : m.values.owned ≡ true
 
--- after a change a vector still owns its bytes, and can grow by at most n fewer
-pub record Spends (n : ℕ) (before after : Vector) : Type 0 where
-  pub owned : after.owned ≡ true
-  pub spare : before.spare ≤ after.spare + n
-
--- and so each vector of a map, by so many puts whose elements have these lengths in sum; there are
--- at most so many pairs more
+-- so many puts, whose elements have these lengths in sum, spend no more of each vector of a map
+-- than their elements take; there are at most so many pairs more
 pub record SpendsFor (w0 w1 w2 bytes0 bytes1 bytes2 puts : ℕ) (before after : Map2d) : Type 0 where
   pub keys0 : Spends (bytes0 + w0 * puts) before.keys0 after.keys0
   pub joiner : Spends (4 * puts) before.joiner after.joiner

@@ -6,15 +6,8 @@ use Rattle.zv_ule.specs.declared.error.UleError.{UleError}
 use Rattle.zv_map2d.specs.Frame.{Parts}
 use Rattle.zv_map2d.specs.Keys.{Bytes}
 use Rattle.zv_map2d.specs.Rows.{Rows, firsts, seconds, values, ends, rows_of, IsFlat}
+pub use Rattle.zv_map.specs.Vectors.{Vector, KeepsItsRoom}
 use Rattle.zv_map2d.specs.declared.parts.Parts.{Parts as PartsRead}
-
--- one of a map's vectors: its bytes, by how many bytes it can grow without memory, whether it owns
--- them, and whether a change may come that takes no memory
-pub record Vector : Type 0 where
-  pub bytes : List ℕ
-  pub spare : ℕ
-  pub owned : Bool
-  pub ready : Bool
 
 -- a map: its rows, and its vectors
 pub record Map2d : Type 0 where
@@ -62,12 +55,7 @@ pub record ReadsAs (fault : List ℕ → Option UleError) (read : List ℕ → L
   pub sound : fault bytes ≡ None
   pub list : read bytes ≡ xs
 
--- a vector owns its bytes exactly if it did before, and can grow by as much at least
-pub record KeepsItsRoom (before after : Vector) : Type 0 where
-  pub owned : after.owned ≡ before.owned
-  pub spare : before.spare ≤ after.spare
-
--- and so does each vector of a map
+-- each vector owns its bytes exactly if it did before, and can grow by as much at least
 pub record KeepsRoom (before after : Map2d) : Type 0 where
   pub keys0 : KeepsItsRoom before.keys0 after.keys0
   pub joiner : KeepsItsRoom before.joiner after.joiner

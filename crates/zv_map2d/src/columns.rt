@@ -6,8 +6,8 @@ ghost use Rattle.zv_ule.specs.Bytes.{le};
 ghost use Rattle.std.specs.Result.{MatchResult};
 ghost use Rattle.zv_ule.specs.Search.{IsGap, compared};
 ghost use Rattle.zv_ule.specs.Views.{element_of};
+ghost use Rattle.zv_map.specs.Iters.{left_of};
 ghost use Rattle.zv_map.specs.Maps.{IsAt, keys_of, values_of};
-ghost use Rattle.zv_map2d.specs.Iters.{left_of};
 ghost use Rattle.zv_map2d.specs.Keys.{nth};
 ghost use Rattle.zv_map2d.specs.Places.{IsPlace};
 ghost use Rattle.zv_map2d.specs.Rows.{IsWell, before, ends, find, firsts, row_at, seconds};
@@ -15,13 +15,12 @@ ghost use Rattle.zv_map2d.specs.Rows.{values};
 ghost use Rattle.zv_map2d.specs.Views.{KeepsRoom, ReadsAs, bytes_of, no_bytes, parts_of};
 ghost use Rattle.zv_map2d.specs.Views.{written_parts};
 
-use crate::cursor::Iter1;
 use crate::order::number_at;
 use crate::parts::Parts;
 use crate::place::Place;
 use std::marker::{Model, PhantomData};
 use zv_fixed::ZeroVec;
-use zv_map::{ZeroVecSearch, ZvContainer};
+use zv_map::{ZeroMapIter, ZeroVecSearch, ZvContainer};
 use zv_ule::{VarRef, ZvKind, ZvOrd, ZvOrdArg};
 
 /// The four vectors of a map: the first keys, for each row where it ends, and all second keys and
@@ -256,16 +255,16 @@ impl<
     }
 
     /// The pairs of the row, in order.
-    pub(crate) fn pairs(&self, row: usize) -> Iter1<'_, K1, V>
+    pub(crate) fn pairs(&self, row: usize) -> ZeroMapIter<'_, K1, V>
         requires { row < length self.now.rows }
         ensures { left_of result ≡ row_at self.now.rows row }
     {
-        Iter1 {
-            keys: self.keys1.zvl_as_borrowed(),
-            values: self.values.zvl_as_borrowed(),
-            next: self.row_start(row),
-            end: self.row_end(row),
-        }
+        ZeroMapIter::between(
+            self.keys1.zvl_as_borrowed(),
+            self.values.zvl_as_borrowed(),
+            self.row_start(row),
+            self.row_end(row),
+        )
     }
 
     /// The bytes of the four vectors.

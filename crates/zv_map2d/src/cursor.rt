@@ -1,18 +1,22 @@
 // One row of a map.
-ghost use Rattle.std.specs.Prelude.{◌≡◌, ℕ, ◌^◌, ◌<◌, ◌≤◌, List, length, Option, IfSome, Some};
+ghost use Rattle.std.specs.Prelude.{◌≡◌, ℕ, ◌^◌, ◌<◌, List, length, Option, IfSome};
 ghost use Rattle.std.specs.Prelude.{option_map};
 ghost use Rattle.std.specs.declared.cmp.Ordering.TheVariants.{Equal};
-ghost use Rattle.std.specs.Iterator.{YieldsFirstBy, UpTo, item_count};
-ghost use Rattle.std.specs.Iterator.SizeHint.{IsWithinCount};
 ghost use Rattle.zv_ule.specs.Views.{element_of};
-ghost use Rattle.zv_map.specs.Views.{list_of};
-ghost use Rattle.zv_map2d.specs.Rows.{row_of};
+ghost use Rattle.zv_map.specs.Iters.{left_of};
 ghost use Rattle.zv_map.specs.Maps.{look_up};
+ghost use Rattle.zv_map2d.specs.Rows.{row_of};
 
 use crate::map::Map2dOver;
 use std::marker::Model;
-use zv_map::{KvSlice, ZvContainer};
+use zv_map::{ZeroMapCopiedValues, ZeroMapIter, ZvContainer};
 use zv_ule::{VarRef, ZvKind, ZvOrd, ZvOrdArg};
+
+/// The pairs of a row, in order: each a second key and its value.
+pub type Iter1<'l, K1, V> = ZeroMapIter<'l, K1, V>;
+
+/// The pairs of a row, in order, their values read into hand.
+pub type Iter1Copied<'l, K1, V> = ZeroMapCopiedValues<'l, K1, V>;
 
 /// One row of a map: a first key, and its pairs of a second key and a value in order. It is a place
 /// in the map, and takes no memory.
@@ -94,8 +98,6 @@ impl<
     C1: ZvContainer<K1>,
     D: ZvContainer<V>,
 > ZeroMap2dCursor<'l, 'a, K0, K1, V, C0, C1, D> {
-    ghost use Rattle.zv_map2d.specs.Iters.{left_of};
-
     /// The row's first key.
     pub fn key0(&self) -> VarRef<'l, K0>
         ensures { element_of result ≡ self.now.key }
@@ -123,49 +125,5 @@ impl<
             return None;
         };
         map.columns.value_at(row, pair)
-    }
-}
-
-/// The pairs of a row, in order: each a second key and its value.
-#[derive(Drop)]
-pub struct Iter1<'l, K1: ZvKind, V: ZvKind> {
-    pub(crate) keys: KvSlice<'l, K1>,
-    pub(crate) values: KvSlice<'l, V>,
-    pub(crate) next: usize,
-    pub(crate) end: usize,
-    pub ghost order: { next ≤ end },
-    pub ghost keys_within: { end ≤ length (list_of keys) },
-    pub ghost values_within: { end ≤ length (list_of values) },
-}
-
-impl<'l, K1: ZvKind, V: ZvKind> Iterator for Iter1<'l, K1, V> {
-    ghost use Rattle.zv_map2d.specs.Iters.{left_of, pair_of};
-
-    type Item = (VarRef<'l, K1>, VarRef<'l, V>);
-
-    ghost next_gives = { YieldsFirstBy pair_of left_of };
-
-    ghost remaining = { item_count left_of };
-
-    #[inline]
-    fn next(&mut self) -> Option<(VarRef<'l, K1>, VarRef<'l, V>)> {
-        if self.next == self.end {
-            return None;
-        }
-        let (Some(key), Some(value)) = (self.keys.get(self.next), self.values.get(self.next)) else {
-            unreachable!();
-        };
-        self.next += 1;
-        Some((key, value))
-    }
-
-    #[inline]
-    fn size_hint(&self) -> (usize, Option<usize>)
-        ensures lower { IsWithinCount result.0 (item_count left_of self.now) }
-        ensures upper { IfSome result.1 (UpTo (item_count left_of self.now)) }
-        ensures exact { result ≡ (length (left_of self.now), Some (length (left_of self.now))) }
-    {
-        let len = self.end - self.next;
-        (len, Some(len))
     }
 }

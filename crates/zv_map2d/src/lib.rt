@@ -21,7 +21,7 @@ mod parse;
 pub mod parts;
 pub mod place;
 
-pub use cursor::{Iter1, ZeroMap2dCursor};
+pub use cursor::{Iter1, Iter1Copied, ZeroMap2dCursor};
 pub use error::{EditError, Map2dError};
 pub use image::{cut_parts, parse_image};
 pub use map::{Map2dOver, ZeroMap2d};

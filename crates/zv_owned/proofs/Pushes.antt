@@ -1,5 +1,5 @@
 -- Elements that join a list one after another.
-use Rattle.std.proofs.Common.{◌≡◌, ℕ, ◌+◌, ◌*◌, ◌^◌, ◌<◌, ◌≤◌, true, List, [], ◌∷◌, ◌++◌, length, refl, ap, arith, length-append, append_assoc}
+use Rattle.std.proofs.Common.{◌≡◌, ℕ, ◌+◌, ◌*◌, ◌^◌, ◌<◌, ◌≤◌, true, nat_le, List, [], ◌∷◌, ◌++◌, length, refl, ap, arith, length-append, append_assoc}
 use Rattle.std.proofs.lemmas.List.{append-nil}
 use Rattle.std.proofs.lemmas.List.Elements.{All-from_recursion, recursion_from_All}
 use Rattle.std.proofs.lemmas.List.Sorted.{All-permutation, length_permutation, sum_by-IsPermutation}
@@ -7,8 +7,9 @@ use Rattle.std.proofs.lemmas.List.Sums.{sum_by-cons}
 use Rattle.std.specs.List.{AllByRecursion, concat, sum_by}
 use Rattle.std.specs.Prelude.{IsPermutation}
 use Rattle.zv_owned.specs.Size.{max_of, size, takes_insert, takes_pushes}
-use Rattle.std.proofs.lemmas.Bool.{and_parts}
-use Rattle.std.proofs.Math.Nat.{mul-one, mul-zero}
+use Rattle.std.proofs.lemmas.Bool.{and_parts, leb-true, le-leb}
+use Rattle.std.proofs.lemmas.Bool.Decides.{same_from_decides}
+use Rattle.std.proofs.Math.Nat.{mul-one, mul-suc, mul-zero}
 use Rattle.zv_owned.proofs.Codable.{insert_room, insert_short, insert_taken, is_below, size_between, size_of}
 
 -- where every list takes every element
@@ -84,3 +85,25 @@ module _ (w : ℕ) (some : 0 < w) (narrow : 256 ^ w ≤ 2 ^ 32) where
   any_order xs (y ∷ z ∷ ys) p t =
       let short = all_permuted xs (y ∷ z ∷ ys) p (all_short [] xs t) in
       rw (is_below (length y) (max_of w) short.0) (takes_within y [] (z ∷ ys) short.1 (within_permuted xs y z ys p t))
+
+  -- several elements are taken exactly where the whole is within what a field holds
+  each_within : (xs : List (List ℕ)) (n : ℕ) → length (concat xs) < n → AllByRecursion (λ e. length e < n) xs
+  each_within [] n h = tt
+  each_within (x ∷ xs) n h = let l = length-append x (concat xs) in (omega (arith, h, l), each_within xs n (omega (arith, h, l)))
+
+  all_within : (x y : List ℕ) (ys : List (List ℕ)) → size w (x ∷ y ∷ ys) ≤ max_of w → AllByRecursion IsShort (x ∷ y ∷ ys)
+  all_within x y ys h =
+      each_within (x ∷ y ∷ ys) (max_of w) (omega (arith, h, size_of w (x ∷ y ∷ ys), mul-suc w (length ys + 1), some))
+
+  several_taken : (x y : List ℕ) (ys : List (List ℕ)) → takes_pushes (takes_insert w) [] (x ∷ y ∷ ys) ≡ nat_le (size w (x ∷ y ∷ ys)) (max_of w)
+  several_taken x y ys =
+      let taken : size w (x ∷ y ∷ ys) ≤ max_of w → takes_pushes (takes_insert w) [] (x ∷ y ∷ ys) ≡ true = λ h.
+      let short = all_within x y ys h in
+      rw (is_below (length x) (max_of w) short.0) (takes_within x [] (y ∷ ys) short.1 h) in
+      same_from_decides _ _ (λ t. within x [] y ys (and_parts (takes_insert w [] (length x)) _ t).1, taken)
+      (leb-true (size w (x ∷ y ∷ ys)) (max_of w), le-leb (size w (x ∷ y ∷ ys)) (max_of w))
+
+  pub list_taken : (xs : List (List ℕ)) → (length xs ≡ 0 → ⊥) → (length xs ≡ 1 → ⊥) → takes_pushes (takes_insert w) [] xs ≡ nat_le (size w xs) (max_of w)
+  list_taken [] a b = absurd (a refl)
+  list_taken (x ∷ []) a b = absurd (b refl)
+  list_taken (x ∷ y ∷ ys) a b = several_taken x y ys

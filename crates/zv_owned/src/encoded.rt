@@ -5,9 +5,10 @@ use std::marker::PhantomData;
 use zv_ule::{EncodeAsVarULE, VarULE, VarZeroVecFormat, ZvArg};
 use zv_var::slice::VarZeroSlice;
 
-/// A value that has a spelling, with the spelling's length.
+/// A value that has a spelling, with the spelling's length: an argument of the kind, whose bytes
+/// are the spelling.
 #[derive(Drop)]
-pub(crate) struct Encoded<'e, T: VarULE, A: EncodeAsVarULE<T>> {
+pub struct Encoded<'e, T: VarULE, A: EncodeAsVarULE<T>> {
     value: &'e A,
     len: usize,
     of: PhantomData<T>,
@@ -17,12 +18,10 @@ pub(crate) struct Encoded<'e, T: VarULE, A: EncodeAsVarULE<T>> {
 }
 
 impl<'e, T: VarULE, A: EncodeAsVarULE<T>> Encoded<'e, T, A> {
-    /// The value as an element of a list's kind, or `None` where it has no spelling.
+    /// The value as an argument, or `None` where it has no spelling.
     #[inline]
-    pub(crate) fn for_list<F: VarZeroVecFormat>(
-        _list: VarZeroSlice<'_, T, F>,
-        value: &'e A,
-    ) -> Option<Self>
+    pub fn new(value: &'e A) -> Option<Self>
+        requires { IsTrue T.usable }
         ensures some { is_some result ≡ A.fits value.now }
         ensures value { IfSome result (λ e. e.value.now ≡ value.now) }
         ensures below { IfSome result (λ e. length (A.spelling e.value.now) < 2 ^ 64) }
@@ -35,6 +34,19 @@ impl<'e, T: VarULE, A: EncodeAsVarULE<T>> Encoded<'e, T, A> {
             len: value.encode_var_ule_len(),
             of: PhantomData,
         })
+    }
+
+    /// The value as an argument of a list's kind, or `None` where it has no spelling.
+    #[inline]
+    pub(crate) fn for_list<F: VarZeroVecFormat>(
+        _list: VarZeroSlice<'_, T, F>,
+        value: &'e A,
+    ) -> Option<Self>
+        ensures some { is_some result ≡ A.fits value.now }
+        ensures value { IfSome result (λ e. e.value.now ≡ value.now) }
+        ensures below { IfSome result (λ e. length (A.spelling e.value.now) < 2 ^ 64) }
+    {
+        Self::new(value)
     }
 }
 

@@ -5,17 +5,21 @@
 //! [`Shelf`](shelf::Shelf) is a buffer of bytes that counts what is written into it.
 #![tactic(auto)]
 
-mod encoded;
+pub mod encoded;
 pub mod error;
 pub mod laws;
 mod moves;
+mod nested;
+mod order;
 pub mod owned;
+mod search;
 pub mod shelf;
 mod size;
 mod splice;
 pub mod vector;
 mod writes;
 
+pub use encoded::Encoded;
 pub use error::VecError;
 pub use owned::{Change, VarZeroVecOwned};
 pub use vector::{VarZeroVec, VarZeroVec16, VarZeroVec32};

@@ -2,7 +2,7 @@
 ghost use Rattle.std.specs.Prelude.{◌≡◌, ◌^◌, ◌<◌, [], length, slice_index_or};
 ghost use Rattle.zv_var.specs.Views.{list_of};
 ghost use Rattle.zv_owned.specs.Changes.{HasPlace, IsBelow, takes_change};
-ghost use Rattle.zv_owned.specs.Size.{max_of, size, takes_insert, takes_replace};
+ghost use Rattle.zv_owned.specs.Size.{max_of, size, takes_insert, takes_pushes, takes_replace};
 
 use crate::owned::Change;
 use zv_ule::{VarZeroVecFormat, ZvArg, ZvKind};
@@ -64,6 +64,19 @@ pub(crate) fn takes_replace<T: ZvKind, F: VarZeroVecFormat>(
     let most = most::<F>();
     let old = len_at(list, index);
     len < most && (len <= old || size_of(list) + len <= most + old)
+}
+
+/// Whether an empty list takes the list's elements one after another.
+#[inline]
+pub(crate) fn takes_elements<T: ZvKind, F: VarZeroVecFormat>(list: VarZeroSlice<'_, T, F>) -> bool
+    ensures { result ≡ takes_pushes (takes_insert F.W) [] (list_of list.entry) }
+{
+    let most = most::<F>();
+    match list.len() {
+        0 => true,
+        1 => len_at(list, 0) < most,
+        _ => size_of(list) <= most,
+    }
 }
 
 /// Whether the list takes a change at a place.

@@ -5,7 +5,7 @@ ghost use Rattle.std.specs.Option.{option_map, option_map_or};
 ghost use Rattle.hex.specs.Hex.{encode_lower};
 ghost use Rattle.zv_map2d.specs.Fits.{fits_texts};
 ghost use Rattle.zv_map2d.specs.Image.{by_bytes};
-ghost use Rattle.zv_map2d.specs.Iters.{left_of};
+ghost use Rattle.zv_map.specs.Iters.{left_of};
 ghost use Rattle.zv_map2d.specs.Places.{IsPlace};
 ghost use Rattle.zv_map2d.specs.Rows.{put};
 ghost use Rattle.zv_ule.specs.Views.{element_of};

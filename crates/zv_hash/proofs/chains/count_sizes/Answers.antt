@@ -1,4 +1,5 @@
-use Rattle.std.proofs.Common.{◌≡◌, ℕ, ◌+◌, ◌<◌, ◌==◌, inl, inr, true, false, length, get_or, set, arith, ap, sym, ◌∙◌, length-set, get_or-set_same, get_or-set_other}
+use Rattle.std.proofs.Common.{◌≡◌, ℕ, ◌+◌, ◌<◌, ◌==◌, inl, inr, true, false, length, get_or, set, arith, ap, sym, ◌∙◌, length-set, get_or-set_same}
+use Rattle.std.proofs.Common.{get_or-set_other}
 use Rattle.std.proofs.lemmas.Bool.{cases_eq}
 use Rattle.std.proofs.lemmas.Bool.Decides.{nat_tests}
 use Rattle.std.proofs.lemmas.List.Sums.{count_by_more_no, count_by_more_yes}
@@ -22,7 +23,8 @@ loop-hash-preserved c =
     record {
       len = length-set c.loop-hash.sizes b _ ∙ old.len;
       counts = λ g h. elim (cases_eq g b) [
-        | inl at ↦ ap (λ k. get_or (set c.loop-hash.sizes b (get_or c.loop-hash.sizes b 0 + 1)) k 0) at ∙ get_or-set_same c.loop-hash.sizes b _ 0 (omega (arith, old.len))
+        | inl at ↦ ap (λ k. get_or (set c.loop-hash.sizes b (get_or c.loop-hash.sizes b 0 + 1)) k 0) at
+            ∙ get_or-set_same c.loop-hash.sizes b _ 0 (omega (arith, old.len))
             ∙ ap (λ k. k + 1) (ap (λ k. get_or c.loop-hash.sizes k 0) (sym at) ∙ old.counts g h)
             ∙ sym (count_by_more_yes (λ h. bucket_of (length hs) h == g) hs i 0 (omega arith) (same _ g (sym is ∙ sym at)))
         | inr apart ↦ get_or-set_other c.loop-hash.sizes b g _ 0 apart ∙ old.counts g h

@@ -1,6 +1,6 @@
 use Rattle.std.proofs.Common.{◌≡◌, ◌∷◌, [], ap, rules}
 use Rattle.std.specs.List.{flat_map}
-use Rattle.zv_map2d.specs.Iters.{left_of}
+use Rattle.zv_map.specs.Iters.{left_of}
 use Rattle.zv_tool.specs.Output.{pair_text}
 use Rattle.zv_tool.proofs.Sending.{completes_more, completes_cut, completes_none}
 use Rattle.zv_tool.proofs.replies.write_pairs.Goals as goal

@@ -1,0 +1,6 @@
+use Rattle.std.proofs.Common.{◌≡◌, ◌≤◌, take, length}
+use Rattle.zv_map.specs.Views.{list_of}
+use Rattle.zv_map.proofs.view.KvSlice.same.Given as goal
+
+abbrev pub invariant-loop-index : goal.invariant-loop-index
+invariant-loop-index g l = take l.index (list_of l.self) ≡ take l.index (list_of l.other)

@@ -1,0 +1,196 @@
+// The elements of a view, and the pairs of two views, in order.
+ghost use Rattle.std.specs.Prelude.{◌≡◌, ℕ, ◌≤◌, length, zip, slice_range, IfSome, Some};
+ghost use Rattle.std.specs.Iterator.{UpTo, YieldsFirstBy, YieldsLastBy};
+ghost use Rattle.std.specs.Iterator.{item_count};
+ghost use Rattle.std.specs.Iterator.SizeHint.{IsWithinCount};
+ghost use Rattle.zv_map.specs.Views.{list_of};
+
+use crate::view::KvSlice;
+use zv_ule::{VarRef, ZvKind};
+
+// ---- the elements of one view
+
+/// The elements of a view that are left to come, in order. It reads each where it lies.
+#[derive(Drop)]
+pub struct KvSliceIter<'l, T: ZvKind> {
+    list: KvSlice<'l, T>,
+    next: usize,
+    end: usize,
+    pub ghost order: { next ≤ end },
+    pub ghost within: { end ≤ length (list_of list) },
+}
+
+/// The keys of a map, in order.
+pub type ZeroMapKeys<'l, K> = KvSliceIter<'l, K>;
+
+/// The values of a map, in the order of their keys.
+pub type ZeroMapValues<'l, V> = KvSliceIter<'l, V>;
+
+impl<'l, T: ZvKind> KvSlice<'l, T> {
+    ghost use Rattle.zv_map.specs.Iters.{elements_left};
+
+    /// The elements, in order.
+    #[inline]
+    pub fn iter(self) -> KvSliceIter<'l, T>
+        ensures { elements_left result ≡ list_of self.entry }
+    {
+        KvSliceIter {
+            list: self,
+            next: 0,
+            end: self.len(),
+        }
+    }
+}
+
+impl<'l, T: ZvKind> Iterator for KvSliceIter<'l, T> {
+    ghost use Rattle.zv_ule.specs.Views.{element_of};
+    ghost use Rattle.zv_map.specs.Iters.{elements_left};
+
+    type Item = VarRef<'l, T>;
+
+    ghost next_gives = { YieldsFirstBy element_of elements_left };
+
+    ghost remaining = { item_count elements_left };
+
+    #[inline]
+    fn next(&mut self) -> Option<VarRef<'l, T>> {
+        let at = self.next;
+        if at == self.end {
+            return None;
+        }
+        self.next = at + 1;
+        Some(self.list.at(at))
+    }
+
+    #[inline]
+    fn size_hint(&self) -> (usize, Option<usize>)
+        ensures lower { IsWithinCount result.0 (item_count elements_left self.now) }
+        ensures upper { IfSome result.1 (UpTo (item_count elements_left self.now)) }
+        ensures exact { result
+            ≡ (length (elements_left self.now), Some (length (elements_left self.now))) }
+    {
+        let len = self.end - self.next;
+        (len, Some(len))
+    }
+}
+
+impl<T: ZvKind> DoubleEndedIterator for KvSliceIter<'_, T> {
+    ghost use Rattle.zv_ule.specs.Views.{element_of};
+    ghost use Rattle.zv_map.specs.Iters.{elements_left};
+
+    ghost next_back_gives = { YieldsLastBy element_of elements_left };
+
+    #[inline]
+    fn next_back(&mut self) -> Option<Self::Item> {
+        if self.next == self.end {
+            return None;
+        }
+        self.end -= 1;
+        Some(self.list.at(self.end))
+    }
+}
+
+impl<T: ZvKind> ExactSizeIterator for KvSliceIter<'_, T> {
+    #[inline]
+    fn len(&self) -> usize {
+        self.end - self.next
+    }
+}
+
+// ---- the pairs of two views
+
+/// The pairs of a key and its value that are left to come, in the order of the keys. It reads each
+/// where it lies.
+#[derive(Drop)]
+pub struct ZeroMapIter<'l, K: ZvKind, V: ZvKind> {
+    keys: KvSlice<'l, K>,
+    values: KvSlice<'l, V>,
+    next: usize,
+    end: usize,
+    pub ghost order: { next ≤ end },
+    pub ghost keys_within: { end ≤ length (list_of keys) },
+    pub ghost values_within: { end ≤ length (list_of values) },
+}
+
+impl<'l, K: ZvKind, V: ZvKind> ZeroMapIter<'l, K, V> {
+    ghost use Rattle.zv_map.specs.Iters.{left_of};
+
+    /// The pairs of the keys and the values from the place `start` up to `end`.
+    #[inline]
+    pub fn between(keys: KvSlice<'l, K>, values: KvSlice<'l, V>, start: usize, end: usize) -> Self
+        requires order { start ≤ end }
+        requires keys { end ≤ length (list_of keys) }
+        requires values { end ≤ length (list_of values) }
+        ensures { left_of result
+            ≡ zip (slice_range (list_of keys.entry) start end)
+            (slice_range (list_of values.entry) start end) }
+    {
+        ZeroMapIter {
+            keys,
+            values,
+            next: start,
+            end,
+        }
+    }
+
+    /// The pairs of all keys and values, which are equally many.
+    #[inline]
+    pub fn new(keys: KvSlice<'l, K>, values: KvSlice<'l, V>) -> Self
+        requires { length (list_of keys) ≡ length (list_of values) }
+        ensures { left_of result ≡ zip (list_of keys.entry) (list_of values.entry) }
+    {
+        Self::between(keys, values, 0, keys.len())
+    }
+}
+
+impl<'l, K: ZvKind, V: ZvKind> Iterator for ZeroMapIter<'l, K, V> {
+    ghost use Rattle.zv_map.specs.Iters.{left_of, pair_of};
+
+    type Item = (VarRef<'l, K>, VarRef<'l, V>);
+
+    ghost next_gives = { YieldsFirstBy pair_of left_of };
+
+    ghost remaining = { item_count left_of };
+
+    #[inline]
+    fn next(&mut self) -> Option<(VarRef<'l, K>, VarRef<'l, V>)> {
+        let at = self.next;
+        if at == self.end {
+            return None;
+        }
+        self.next = at + 1;
+        Some((self.keys.at(at), self.values.at(at)))
+    }
+
+    #[inline]
+    fn size_hint(&self) -> (usize, Option<usize>)
+        ensures lower { IsWithinCount result.0 (item_count left_of self.now) }
+        ensures upper { IfSome result.1 (UpTo (item_count left_of self.now)) }
+        ensures exact { result ≡ (length (left_of self.now), Some (length (left_of self.now))) }
+    {
+        let len = self.end - self.next;
+        (len, Some(len))
+    }
+}
+
+impl<K: ZvKind, V: ZvKind> DoubleEndedIterator for ZeroMapIter<'_, K, V> {
+    ghost use Rattle.zv_map.specs.Iters.{left_of, pair_of};
+
+    ghost next_back_gives = { YieldsLastBy pair_of left_of };
+
+    #[inline]
+    fn next_back(&mut self) -> Option<Self::Item> {
+        if self.next == self.end {
+            return None;
+        }
+        self.end -= 1;
+        Some((self.keys.at(self.end), self.values.at(self.end)))
+    }
+}
+
+impl<K: ZvKind, V: ZvKind> ExactSizeIterator for ZeroMapIter<'_, K, V> {
+    #[inline]
+    fn len(&self) -> usize {
+        self.end - self.next
+    }
+}
