@@ -9,7 +9,6 @@ ghost use Rattle.zv_ule.specs.Views.{element_of};
 ghost use Rattle.zv_map.specs.Iters.{left_of};
 ghost use Rattle.zv_map.specs.Maps.{IsAt, keys_of, values_of};
 ghost use Rattle.zv_map2d.specs.Keys.{nth};
-ghost use Rattle.zv_map2d.specs.Places.{IsPlace};
 ghost use Rattle.zv_map2d.specs.Rows.{IsWell, before, ends, find, firsts, row_at, seconds};
 ghost use Rattle.zv_map2d.specs.Rows.{values};
 ghost use Rattle.zv_map2d.specs.Views.{KeepsRoom, ReadsAs, bytes_of, no_bytes, parts_of};
@@ -17,7 +16,6 @@ ghost use Rattle.zv_map2d.specs.Views.{written_parts};
 
 use crate::order::number_at;
 use crate::parts::Parts;
-use crate::place::Place;
 use std::marker::{Model, PhantomData};
 use zv_fixed::ZeroVec;
 use zv_map::{ZeroMapIter, ZeroVecSearch, ZvContainer};
@@ -219,36 +217,22 @@ impl<
         self.values.zvl_get(self.pair_start(row, pair))
     }
 
-    /// Where the pair of keys stands, or would stand.
-    pub(crate) fn place<Q0: ZvOrdArg<K0>, Q1: ZvOrdArg<K1>>(&self, key0: &Q0, key1: &Q1) -> Place
-        requires well { IsWell K0.cmp K1.cmp self.now.rows }
-        requires key0 { length (Q0.bytes key0.now) < 2 ^ 64 }
-        requires key1 { length (Q1.bytes key1.now) < 2 ^ 64 }
-        ensures { IsPlace K0.cmp K1.cmp self.now.rows (Q0.bytes key0.now) (Q1.bytes key1.now)
-            result }
-    {
-        match self.row_place(key0) {
-            Ok(row) => match self.pair_place(row, key1) {
-                Ok(pair) => Place::Pair { row, pair },
-                Err(pair) => Place::InRow { row, pair },
-            },
-            Err(row) => Place::NewRow { row },
-        }
-    }
-
-    /// The value at the place of a pair of keys, if there is one.
-    pub(crate) fn value_there<Q0: ZvOrdArg<K0>, Q1: ZvOrdArg<K1>>(
+    /// The value of the pair of keys, if there is one.
+    pub(crate) fn get_2d<Q0: ZvOrdArg<K0>, Q1: ZvOrdArg<K1>>(
         &self,
-        place: Place,
         key0: &Q0,
         key1: &Q1,
     ) -> Option<VarRef<'_, V>>
-        requires { IsPlace K0.cmp K1.cmp self.now.rows (Q0.bytes key0.now) (Q1.bytes key1.now)
-            place }
+        requires well { IsWell K0.cmp K1.cmp self.now.rows }
+        requires key0 { length (Q0.bytes key0.now) < 2 ^ 64 }
+        requires key1 { length (Q1.bytes key1.now) < 2 ^ 64 }
         ensures { option_map element_of result
             ≡ find K0.cmp K1.cmp self.now.rows (Q0.bytes key0.now) (Q1.bytes key1.now) }
     {
-        let Place::Pair { row, pair } = place else {
+        let Ok(row) = self.row_place(key0) else {
+            return None;
+        };
+        let Ok(pair) = self.pair_place(row, key1) else {
             return None;
         };
         self.value_at(row, pair)

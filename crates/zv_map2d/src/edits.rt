@@ -18,7 +18,7 @@ use crate::error::Map2dError;
 use crate::joiner::shift;
 use crate::place::Place;
 use std::alloc::Global;
-use zv_map::MutableZeroVecLike;
+use zv_map::{MutableZeroVecLike, TooLarge};
 use zv_ule::{NoMemory, ZvArg, ZvKind, ZvOrd, ZvOrdArg};
 
 /// The most pairs that a joiner can count.
@@ -114,6 +114,23 @@ impl<
 
     // ---- what fits
 
+    /// Where the pair of keys stands, or would stand.
+    pub(crate) fn place<Q0: ZvOrdArg<K0>, Q1: ZvOrdArg<K1>>(&self, key0: &Q0, key1: &Q1) -> Place
+        requires well { IsWell K0.cmp K1.cmp self.now.rows }
+        requires key0 { length (Q0.bytes key0.now) < 2 ^ 64 }
+        requires key1 { length (Q1.bytes key1.now) < 2 ^ 64 }
+        ensures { IsPlace K0.cmp K1.cmp self.now.rows (Q0.bytes key0.now) (Q1.bytes key1.now)
+            result }
+    {
+        match self.row_place(key0) {
+            Ok(row) => match self.pair_place(row, key1) {
+                Ok(pair) => Place::Pair { row, pair },
+                Err(pair) => Place::InRow { row, pair },
+            },
+            Err(row) => Place::NewRow { row },
+        }
+    }
+
     /// Whether a new pair's key and value are taken by their lists.
     fn takes_pair<Q1: ZvArg<K1>, R: ZvArg<V>>(&self, key1: &Q1, value: &R) -> bool
         requires key1 { length (Q1.bytes key1.now) < 2 ^ 64 }
@@ -152,6 +169,25 @@ impl<
                 self.keys0.zvl_takes_insert(key0.arg_len()) && self.takes_pair(key1, value)
             }
         }
+    }
+
+    /// Whether the value fits.
+    pub(crate) fn would_take<Q0: ZvOrdArg<K0>, Q1: ZvOrdArg<K1>, R: ZvArg<V>>(
+        &self,
+        key0: &Q0,
+        key1: &Q1,
+        value: &R,
+    ) -> bool
+        requires well { IsWell K0.cmp K1.cmp self.now.rows }
+        requires key0 { length (Q0.bytes key0.now) < 2 ^ 64 }
+        requires key1 { length (Q1.bytes key1.now) < 2 ^ 64 }
+        requires value { length (R.bytes value.now) < 2 ^ 64 }
+        ensures { result ≡ fits
+            (rule_of C0.takes_insert C1.takes_insert D.takes_insert D.takes_replace)
+            K0.cmp K1.cmp self.now.rows
+            (Q0.bytes key0.now) (Q1.bytes key1.now) (R.bytes value.now) }
+    {
+        self.takes(self.place(key0, key1), key0, key1, value)
     }
 
     // ---- changes in the vectors' own memory
@@ -237,7 +273,7 @@ impl<
     }
 
     /// Puts a value, which fits, at the place of its keys.
-    pub(crate) fn put_at<Q0: ZvOrdArg<K0>, Q1: ZvOrdArg<K1>, R: ZvArg<V>>(
+    fn put_at<Q0: ZvOrdArg<K0>, Q1: ZvOrdArg<K1>, R: ZvArg<V>>(
         &mut self,
         place: Place,
         key0: &Q0,
@@ -443,17 +479,49 @@ impl<
         Ok(Some(old))
     }
 
-    /// Takes the pair at the place of its keys out, with its row where that was its only pair, and
-    /// says whether it was there.
-    pub(crate) fn discard_at<Q0: ZvOrdArg<K0>, Q1: ZvOrdArg<K1>>(
+    /// Puts a value that the room covers for a pair of keys, and says whether the pair was there.
+    pub(crate) fn put_reserved<Q0: ZvOrdArg<K0>, Q1: ZvOrdArg<K1>, R: ZvArg<V>>(
         &mut self,
-        place: Place,
+        key0: &Q0,
+        key1: &Q1,
+        value: &R,
+    ) -> Result<bool, TooLarge>
+        requires well { IsWell K0.cmp K1.cmp self.old.rows }
+        requires key0 { length (Q0.bytes key0.now) < 2 ^ 64 }
+        requires key1 { length (Q1.bytes key1.now) < 2 ^ 64 }
+        requires value { length (R.bytes value.now) < 2 ^ 64 }
+        requires room { HasRoomFor C0.field C1.field D.field (length (Q0.bytes key0.now))
+            (length (Q1.bytes key1.now)) (length (R.bytes value.now)) 1 self.old }
+        ensures rows { OnOk result (self.new.rows ≡ put K0.cmp K1.cmp self.old.rows
+            (Q0.bytes key0.now) (Q1.bytes key1.now) (R.bytes value.now)) }
+        ensures found { IfOk result (λ found. found ≡ is_some (find K0.cmp K1.cmp self.old.rows
+            (Q0.bytes key0.now) (Q1.bytes key1.now))) }
+        ensures err { OnErr result (self.new ≡ self.old) }
+        ensures refused { is_ok result ≡ fits
+            (rule_of C0.takes_insert C1.takes_insert D.takes_insert D.takes_replace)
+            K0.cmp K1.cmp self.old.rows
+            (Q0.bytes key0.now) (Q1.bytes key1.now) (R.bytes value.now) }
+        ensures spends { SpendsFor C0.field C1.field D.field (length (Q0.bytes key0.now))
+            (length (Q1.bytes key1.now)) (length (R.bytes value.now)) 1 self.old self.new }
+    {
+        let place = self.place(key0, key1);
+        if !self.takes(place, key0, key1, value) {
+            return Err(TooLarge);
+        }
+        self.put_at(place, key0, key1, value);
+        Ok(place.is_pair())
+    }
+
+    /// Takes a pair of keys out, with its row where that was its only pair, and says whether it was
+    /// there.
+    pub(crate) fn discard<Q0: ZvOrdArg<K0>, Q1: ZvOrdArg<K1>>(
+        &mut self,
         key0: &Q0,
         key1: &Q1,
     ) -> bool
         requires well { IsWell K0.cmp K1.cmp self.old.rows }
-        requires place { IsPlace K0.cmp K1.cmp self.old.rows (Q0.bytes key0.now)
-            (Q1.bytes key1.now) place }
+        requires key0 { length (Q0.bytes key0.now) < 2 ^ 64 }
+        requires key1 { length (Q1.bytes key1.now) < 2 ^ 64 }
         requires owned { IsOwned self.old }
         ensures rows { self.new.rows
             ≡ del K0.cmp K1.cmp self.old.rows (Q0.bytes key0.now) (Q1.bytes key1.now) }
@@ -461,7 +529,7 @@ impl<
             (Q0.bytes key0.now) (Q1.bytes key1.now)) }
         ensures spends { SpendsFor C0.field C1.field D.field 0 0 0 0 self.old self.new }
     {
-        let Place::Pair { row, pair } = place else {
+        let Place::Pair { row, pair } = self.place(key0, key1) else {
             return false;
         };
         self.remove_at(row, pair);

@@ -19,11 +19,10 @@ pub mod map;
 mod order;
 mod parse;
 pub mod parts;
-pub mod place;
+mod place;
 
 pub use cursor::{Iter1, Iter1Copied, ZeroMap2dCursor};
 pub use error::{EditError, Map2dError};
 pub use image::{cut_parts, parse_image};
 pub use map::{Map2dOver, ZeroMap2d};
 pub use parts::Parts;
-pub use place::Place;

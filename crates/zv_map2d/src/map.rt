@@ -186,7 +186,7 @@ impl<
         ensures { option_map element_of result
             ≡ find K0.cmp K1.cmp self.now.rows (Q0.bytes key0.now) (Q1.bytes key1.now) }
     {
-        self.value_at(self.find_place(key0, key1), key0, key1)
+        self.columns.get_2d(key0, key1)
     }
 }
 
@@ -318,7 +318,7 @@ impl<
             K0.cmp K1.cmp self.now.rows
             (Q0.bytes key0.now) (Q1.bytes key1.now) (R.bytes value.now) }
     {
-        self.takes_at(self.find_place(key0, key1), key0, key1, value)
+        self.columns.would_take(key0, key1, value)
     }
 
     /// Gives a pair of keys a value, in room that was made for it, and says whether the pair was
@@ -353,12 +353,7 @@ impl<
         ensures spends { SpendsFor C0.field C1.field D.field (length (Q0.bytes key0.now))
             (length (Q1.bytes key1.now)) (length (R.bytes value.now)) 1 self.old self.new }
     {
-        let place = self.find_place(key0, key1);
-        if !self.takes_at(place, key0, key1, value) {
-            return Err(TooLarge);
-        }
-        self.put_at(place, key0, key1, value);
-        Ok(place.is_pair())
+        self.columns.put_reserved(key0, key1, value)
     }
 
     /// Takes a pair of keys out, with its row where that was its only pair, and says whether it was
@@ -373,8 +368,7 @@ impl<
             (Q0.bytes key0.now) (Q1.bytes key1.now)) }
         ensures spends { SpendsFor C0.field C1.field D.field 0 0 0 0 self.old self.new }
     {
-        let place = self.find_place(key0, key1);
-        self.discard_at(place, key0, key1)
+        self.columns.discard(key0, key1)
     }
 
     /// Gives a pair of keys a value, and gives back the value that it had.
