@@ -1,5 +1,6 @@
 mod Worked
 pub mod Cutting
+pub mod Decoding
 pub mod Edits
 pub mod Fields
 pub mod HexText

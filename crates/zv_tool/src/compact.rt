@@ -2,7 +2,7 @@
 ghost use Rattle.std.specs.Prelude.{◌≡◌, ◌≤◌, IsTrue, IsUtf8, IfOk, length, take};
 ghost use Rattle.zv_tool.specs.Digits.{content_of, is_of_kind};
 
-use hex::FromHexError;
+use crate::digits::{decode, decode_to};
 use std::alloc::Global;
 use std::marker::Model;
 use zv_ule::NoMemory;
@@ -82,10 +82,7 @@ impl<const KIND: u8> CompactBytes<KIND> {
         }
         let mut bytes = [0u8; IN_PLACE];
         let place = &mut bytes[..len];
-        if hex::decode_to_slice(digits, place).is_err() {
-            return Ok(None);
-        }
-        if !is_of_kind(KIND, place) {
+        if !decode_to(digits, place) || !is_of_kind(KIND, place) {
             return Ok(None);
         }
         Ok(Some(CompactBytes::in_place(bytes, len)))
@@ -96,10 +93,8 @@ impl<const KIND: u8> CompactBytes<KIND> {
     fn from_long_hex(alloc: Global, digits: &[u8]) -> Result<Option<Self>, NoMemory>
         ensures { IfOk result (λ b. b ≡ content_of KIND digits.now) }
     {
-        let bytes = match hex::decode(alloc, digits) {
-            Ok(bytes) => bytes,
-            Err(FromHexError::OutOfMemory) => return Err(NoMemory),
-            Err(_) => return Ok(None),
+        let Some(bytes) = decode(alloc, digits)? else {
+            return Ok(None);
         };
         if !is_of_kind(KIND, &bytes) {
             return Ok(None);

@@ -6,6 +6,7 @@ mod command;
 mod commands;
 mod compact;
 mod device;
+mod digits;
 mod edit;
 mod input;
 pub mod laws;

@@ -8,7 +8,7 @@ ghost use Rattle.zv_tool.specs.Digits.{bytes_of_digits};
 ghost use Rattle.zv_tool.specs.Input.{field, key};
 
 use crate::command::{KeyText, ValueBytes};
-use hex::FromHexError;
+use crate::digits::decode;
 use memchr::memchr;
 use std::alloc::Global;
 use zv_ule::NoMemory;
@@ -100,13 +100,9 @@ pub(crate) fn read_field(alloc: Global, word: &[u8]) -> Result<Option<Vec<u8>>, 
     ensures { IfOk result (λ f. MatchOption f (field word.now ≡ None)
         (λ bytes. field word.now ≡ Some bytes.items)) }
 {
-    let Some(digits) = digits_of(word) else {
-        return Ok(None);
-    };
-    match hex::decode(alloc, digits) {
-        Ok(bytes) => Ok(Some(bytes)),
-        Err(FromHexError::OutOfMemory) => Err(NoMemory),
-        Err(_) => Ok(None),
+    match digits_of(word) {
+        Some(digits) => decode(alloc, digits),
+        None => Ok(None),
     }
 }
 
