@@ -3,7 +3,7 @@ use Rattle.std.proofs.Common.{◌≡◌, ◌<◌, Bool, true, false, ◌&&◌, c
 use Rattle.std.specs.Bool.{⊤}
 use Rattle.std.specs.Cmp.{IsTotalOrder, tied_itself}
 use Rattle.std.specs.List.{AllByRecursion}
-use Rattle.std.specs.Option.{unwrap_or}
+use Rattle.std.specs.Option.{option_and_then, unwrap_or}
 use Rattle.std.specs.Ordering.{is_eq}
 use Rattle.std.specs.declared.cmp.Ordering.{Ordering}
 use Rattle.std.specs.declared.cmp.Ordering.TheVariants.{Equal}
@@ -11,7 +11,7 @@ use Rattle.zv_map.proofs.Places.{equal_of, look_up-insert_entry, look_up-without
 use Rattle.zv_map.specs.Maps.{IsMap, keys_of, values_of, look_up, insert_entry, without_key}
 use Rattle.zv_ule.specs.Kinds.{EqualIsSame}
 use Rattle.zv_ule.specs.declared.error.UleError.{UleError}
-use Rattle.zv_map2d.specs.FiniteMap.{PutIsFound, PutLeavesOthers, DelIsGone, DelLeavesOthers, FoundAlike, IsElementOf}
+use Rattle.zv_map2d.specs.FiniteMap.{PutIsFound, PutLeavesOthers, DelIsGone, DelLeavesOthers, FoundAlike, FoundInRow, IsElementOf}
 use Rattle.zv_map2d.specs.Keys.{Bytes}
 use Rattle.zv_map2d.specs.Rows.{Rows, IsRow, IsWell, seconds, row, find, put, with_row, del}
 use Rattle.zv_map2d.proofs.Well.{row_holds, row_ordered}
@@ -123,3 +123,9 @@ found_alike order0 order1 fault0 fault1 total0 total1 exact0 exact1 m n well_m w
     maps_alike total0 (IsElementOf fault0) (exact_keys exact0) m n well_m.0 well_n.0 keys_m.firsts keys_n.firsts
     (λ k0 v. same_row (look_up order0 m k0) (look_up order0 n k0) (look_up_some order0 order1 m k0 well_m.1) (look_up_some order0 order1 n k0 well_n.1)
     (rows_alike k0 v))
+
+pub found_in_row : FoundInRow
+found_in_row order0 order1 m k0 k1 =
+    let by : (o : Option (List (Bytes × Bytes))) → look_up order1 (unwrap_or o []) k1 ≡ option_and_then (λ r. look_up order1 r k1) o =
+    elim [ None ↦ refl | Some r ↦ refl ] in
+    by (look_up order0 m k0)

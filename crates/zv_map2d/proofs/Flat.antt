@@ -40,7 +40,8 @@ before_within m i =
     let whole = ap size (sym (take-append-drop i m)) ∙ ap length (flat_map-append (λ r. r.1) (take i m) (drop i m)) in
     omega (arith, whole, length-append (flat_map (λ r. r.1) (take i m)) (flat_map (λ r. r.1) (drop i m)))
 
-row_is : (m : Rows) (i : ℕ) → i < length m → get_or m i ([], []) ≡ (nth (firsts m) i, row_at m i)
+-- row i with its key
+pub row_is : (m : Rows) (i : ℕ) → i < length m → get_or m i ([], []) ≡ (nth (firsts m) i, row_at m i)
 row_is m i h k = (sym (get_or-map (λ r. r.0) m i ([], []) [] h) k, sym (get_or-map (λ r. r.1) m i ([], []) [] h) k)
 
 pub row_split : (m : Rows) (i : ℕ) → i < length m → m ≡ take i m ++ (nth (firsts m) i, row_at m i) ∷ drop (suc i) m

@@ -1,3 +1,4 @@
+pub mod Bounds
 pub mod FiniteMap
 pub mod Fitting
 pub mod Flat
@@ -6,8 +7,11 @@ pub mod Numbers
 pub mod OnlyImage
 pub mod PairPlaces
 pub mod Parsed
+pub mod Picked
 pub mod Places
 pub mod Room
+pub mod RowIters
+pub mod SameBytes
 pub mod Seen
 pub mod Splices
 pub mod Standing

@@ -22,7 +22,7 @@ same_row m i h = set_split m i _ h ∙ sym (row_split m i h)
 module _ {order0 order1 : Bytes → Bytes → Ordering} (total0 : IsTotalOrder order0) (total1 : IsTotalOrder order1) (m : Rows) (k0 k1 : Bytes) where
   -- ---- the first key is missing
   module _ (i : ℕ) (gap : IsGap (compared order0 (firsts m) k0) i) where
-    no_row : row order0 m k0 ≡ []
+    pub no_row : row order0 m k0 ≡ []
     no_row = ap (λ o. unwrap_or o []) (look_up_gap total0 k0 m i gap)
 
     pub find_new_row : find order0 order1 m k0 k1 ≡ None
@@ -42,7 +42,7 @@ module _ {order0 order1 : Bytes → Bytes → Ordering} (total0 : IsTotalOrder o
     pub look_up_row : look_up order0 m k0 ≡ Some (row_at m i)
     look_up_row = look_up_at total0 k0 m i at ∙ slice_get-get_or (values_of m) i [] (omega (arith, row_within, length-map m (λ e. e.1)))
 
-    row_is : row order0 m k0 ≡ row_at m i
+    pub row_is : row order0 m k0 ≡ row_at m i
     row_is = ap (λ o. unwrap_or o []) look_up_row
 
     pub find_in_row : find order0 order1 m k0 k1 ≡ look_up order1 (row_at m i) k1

@@ -1,16 +1,15 @@
 -- What the four lists of a map have.
-use Rattle.std.proofs.Common.{◌≡◌, ℕ, suc, ◌+◌, ◌<◌, ◌≤◌, Bool, true, false, List, [], length, get_or, slice_index, slice_range, set, take, zip, IsTrue}
-use Rattle.std.proofs.Common.{Result, Ok, Err, OnOk, OnErr, refl, sym, ◌∙◌, ap, subst, arith, zero-add}
-use Rattle.std.proofs.lemmas.List.{length-map, take-take}
+use Rattle.std.proofs.Common.{◌≡◌, ℕ, suc, ◌+◌, ◌-◌, ◌<◌, ◌≤◌, Bool, List, [], length, get_or, slice_index, slice_range, take, zip, IsTrue}
+use Rattle.std.proofs.Common.{Result, refl, sym, ◌∙◌, ap, subst, arith, zero-add}
+use Rattle.std.proofs.lemmas.List.{length-map, take-take, take_all}
 use Rattle.std.specs.List.{flat_map, slice_get}
 use Rattle.std.specs.declared.cmp.Ordering.{Ordering}
 use Rattle.zv_map.proofs.Places.{compared_range}
-use Rattle.zv_map.specs.Maps.{keys_of, values_of, set_value_at}
+use Rattle.zv_map.specs.Maps.{keys_of, values_of}
 use Rattle.zv_ule.specs.Search.{compared, Found}
-use Rattle.zv_map2d.specs.Keys.{Bytes}
-use Rattle.zv_map2d.specs.Rows.{Rows, firsts, seconds, values, ends, IsFlat, before, row_at, rows_of}
+use Rattle.zv_map2d.specs.Keys.{Bytes, Order}
+use Rattle.zv_map2d.specs.Rows.{Rows, firsts, seconds, values, ends, IsFlat, IsWell, before, row_at, rows_of}
 use Rattle.zv_map2d.specs.Views.{AreColumns, Map2d, Vector}
-use Rattle.zv_map2d.proofs.Splices.{value_set}
 use Rattle.zv_map2d.proofs.Flat.{before_suc, before_within, end_at, get_pair, length_ends, length_pick, row_range, values_as_many, view_of}
 use Rattle.zv_map2d.proofs.Flat.{zip_parts}
 
@@ -29,6 +28,23 @@ pub columns : {u0 u1 u2 : Bool} {k0s : List Bytes} {es : List ℕ} {k1s vs : Lis
     AreColumns u0 u1 u2 k0s es k1s vs
 columns {k0s = k0s} {es = es} {k1s = k1s} {vs = vs} {m = m} a b c flat =
     record { keys0 = a; keys1 = b; values = c; flat = subst (IsFlat k0s es k1s vs) (sym (view_of k0s es k1s vs m flat)) flat }
+
+-- lists of a well formed map are those of the map that they stand for
+pub views : (order0 order1 : Order) {k0s : List Bytes} {es : List ℕ} {k1s vs : List Bytes} {m : Rows} → IsFlat k0s es k1s vs m → IsWell order0 order1 m →
+    IsFlat k0s es k1s vs (rows_of k0s es k1s vs) × IsWell order0 order1 (rows_of k0s es k1s vs)
+views order0 order1 {k0s = k0s} {es = es} {k1s = k1s} {vs = vs} {m = m} flat well =
+    let same : m ≡ rows_of k0s es k1s vs = sym (view_of k0s es k1s vs m flat) in
+    (subst (IsFlat k0s es k1s vs) same flat, subst (IsWell order0 order1) same well)
+
+-- maps are the same where their lists are
+pub same_rows : {k0s l0s : List Bytes} {es fs : List ℕ} {k1s l1s vs us : List Bytes} {m n : Rows} → IsFlat k0s es k1s vs m → IsFlat l0s fs l1s us n → m ≡ n →
+    (k0s ≡ l0s) × (es ≡ fs) × (k1s ≡ l1s) × (vs ≡ us)
+same_rows a b e = (
+  a.firsts_are ∙ (ap firsts e ∙ sym b.firsts_are),
+  a.ends_are ∙ (ap ends e ∙ sym b.ends_are),
+  a.seconds_are ∙ (ap seconds e ∙ sym b.seconds_are),
+  a.values_are ∙ (ap values e ∙ sym b.values_are),
+)
 
 -- no lists are those of the map of no pairs
 pub none : {k0s : List Bytes} {es : List ℕ} {k1s vs : List Bytes} → k0s ≡ [] → es ≡ [] → k1s ≡ [] → vs ≡ [] → IsFlat k0s es k1s vs []
@@ -71,9 +87,24 @@ module _ {k0s : List Bytes} {es : List ℕ} {k1s vs : List Bytes} {m : Rows} (s 
   row_keys : (i : ℕ) → i < length m → slice_range k1s (before m i) (before m (suc i)) ≡ keys_of (row_at m i)
   row_keys i h = ap (λ (xs : List Bytes). slice_range xs (before m i) (before m (suc i))) s.seconds_are ∙ row_range (λ p. p.0) m i h
 
+  -- and as a range of the second keys
+  pub row_range_is : (i start end : ℕ) → i < length m → start ≡ before m i → end ≡ before m (suc i) → slice_range k1s start end ≡ keys_of (row_at m i)
+  row_range_is i start end h a b = rw (a, b) (row_keys i h)
+
+  -- how many pairs lie between its ends
+  pub row_size : (i start end : ℕ) → i < length m → start ≡ before m i → end ≡ before m (suc i) → end - start ≡ length (row_at m i)
+  row_size i start end h a b = omega (arith, a, b, before_suc m i h)
+
   -- what a search of the first keys found
   pub found_row : (order : Bytes → Bytes → Ordering) (key : Bytes) (r : Result ℕ ℕ) → Found (compared order k0s key) r → Found (compared order (firsts m) key) r
   found_row order key r found = subst (λ (xs : List Bytes). Found (compared order xs key) r) s.firsts_are found
+
+  -- what a search of all first keys found
+  pub found_first : (order : Bytes → Bytes → Ordering) (key : Bytes) (r : Result ℕ ℕ) (end : ℕ) → end ≡ length m →
+      Found (slice_range (compared order k0s key) 0 end) r → Found (compared order (firsts m) key) r
+  found_first order key r end h found =
+      let all : length (compared order k0s key) ≤ end - 0 = omega (arith, length-map k0s (λ x. order x key), rows_count, h) in
+      found_row order key r (subst (λ (answers : List Ordering). Found answers r) (take_all (end - 0) (compared order k0s key) all) found)
 
   -- what a search of a row's second keys found
   pub found_pair : (order : Bytes → Bytes → Ordering) (key : Bytes) (r : Result ℕ ℕ) (i start end : ℕ) → i < length m → start ≡ before m i →

@@ -6,9 +6,11 @@ use Rattle.std.specs.Ordering.{is_eq}
 use Rattle.std.specs.declared.cmp.Ordering.{Ordering}
 use Rattle.std.specs.declared.cmp.Ordering.TheVariants.{Equal}
 use Rattle.std.specs.List.{AllByRecursion}
+use Rattle.std.specs.Option.{option_and_then}
 use Rattle.zv_ule.specs.declared.error.UleError.{UleError}
 use Rattle.zv_ule.specs.Bytes.{IsBytes}
 use Rattle.zv_ule.specs.Kinds.{EqualIsSame}
+use Rattle.zv_map.specs.Maps.{look_up}
 use Rattle.zv_map2d.specs.Image.{by_bytes}
 use Rattle.zv_map2d.specs.Keys.{Bytes}
 use Rattle.zv_map2d.specs.Rows.{Rows, IsWell, firsts, seconds, find, put, del}
@@ -17,6 +19,12 @@ use Rattle.zv_map2d.specs.Rows.{Rows, IsWell, firsts, seconds, find, put, del}
 abbrev pub IsOther : (Bytes → Bytes → Ordering) → (Bytes → Bytes → Ordering) → Bytes → Bytes →
     Bytes → Bytes → Type 0
 IsOther order0 order1 k0 k1 j0 j1 = (is_eq (order0 k0 j0) && is_eq (order1 k1 j1)) ≡ false
+
+-- what a pair of keys has is what the second key has in the row of the first
+abbrev pub FoundInRow : Type 0
+FoundInRow = (order0 order1 : Bytes → Bytes → Ordering) (m : Rows) (k0 k1 : Bytes) →
+    find order0 order1 m k0 k1
+    ≡ option_and_then (λ r. look_up order1 r k1) (look_up order0 m k0)
 
 -- the value that was put is found
 abbrev pub PutIsFound : Type 0

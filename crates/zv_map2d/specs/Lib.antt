@@ -1,3 +1,5 @@
+pub mod Borrowed
+pub mod Bounds
 pub mod Causes
 pub mod Changes
 pub mod FiniteMap
@@ -10,7 +12,9 @@ pub mod Laws
 pub mod Locales
 pub mod Outcomes
 pub mod Places
+pub mod Predicates
 pub mod Refusals
 pub mod Room
+pub mod RowIters
 pub mod Rows
 pub mod Views

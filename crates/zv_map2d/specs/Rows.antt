@@ -2,7 +2,9 @@
 use Rattle.std.specs.Prelude.{◌≡◌, ℕ, ◌+◌, ◌-◌, ◌<◌, List, [], ◌∷◌, ◌++◌, map, length, take, drop}
 use Rattle.std.specs.Prelude.{Option, flat_map, slice_index_or, unwrap_or, zip}
 use Rattle.std.specs.BTreeMap.{is_at}
-use Rattle.std.specs.List.{AllByRecursion}
+use Rattle.std.specs.Coded.{×_prop, le_prop}
+use Rattle.std.specs.List.{AllByRecursion, AllByRecursion-prop}
+use Rattle.std.specs.List.Sorted.{IsStrictlySortedBy-prop}
 use Rattle.std.specs.Map.{lookup_entry}
 use Rattle.zv_map.specs.Maps.{IsMap, keys_of, values_of, look_up, insert_entry, without_key}
 use Rattle.zv_var.specs.Format.{pieces}
@@ -40,6 +42,12 @@ IsRow order r = (0 < length r.1) × IsMap order r.1
 -- first keys ascend, no row is empty, second keys ascend in each row
 abbrev pub IsWell : Order → Order → Rows → Type 0
 IsWell order0 order1 m = IsMap order0 m × AllByRecursion (IsRow order1) m
+
+-- there is one proof of it
+pub IsWell-prop : (order0 order1 : Order) (m : Rows) → IsProp (IsWell order0 order1 m)
+IsWell-prop order0 order1 m = ×_prop (IsStrictlySortedBy-prop order0 (keys_of m))
+    (AllByRecursion-prop (IsRow order1)
+    (λ r. ×_prop le_prop (IsStrictlySortedBy-prop order1 (keys_of r.1))) m)
 
 -- the first key's row, which is empty where there is none
 abbrev pub row : Order → Rows → Bytes → List (Bytes × Bytes)

@@ -1,11 +1,11 @@
 -- What is seen of a map.
-use Rattle.std.specs.Prelude.{◌≡◌, ◌≤◌, ℕ, Bool, false, List, [], IsTrue, Option, None}
-use Rattle.std.specs.List.{flat_map}
+use Rattle.std.specs.Prelude.{◌≡◌, ℕ, Bool, false, List, [], IsTrue, Option, None, map}
+use Rattle.std.specs.List.{flat_map, range_with_len}
 use Rattle.zv_ule.specs.Bytes.{le}
 use Rattle.zv_ule.specs.declared.error.UleError.{UleError}
 use Rattle.zv_map2d.specs.Frame.{Parts}
-use Rattle.zv_map2d.specs.Keys.{Bytes}
-use Rattle.zv_map2d.specs.Rows.{Rows, firsts, seconds, values, ends, rows_of, IsFlat}
+use Rattle.zv_map2d.specs.Keys.{Bytes, nth}
+use Rattle.zv_map2d.specs.Rows.{Rows, firsts, seconds, values, ends, rows_of, row_at, IsFlat}
 pub use Rattle.zv_map.specs.Vectors.{Vector, KeepsItsRoom}
 use Rattle.zv_map2d.specs.declared.parts.Parts.{Parts as PartsRead}
 
@@ -17,10 +17,21 @@ pub record Map2d : Type 0 where
   pub keys1 : Vector
   pub values : Vector
 
--- a row of a map: its first key, and its pairs of a second key and a value
+-- a row of a map, as a cursor sees it: its first key, its pairs of a second key and a value, the
+-- map and its place in it
 pub record Row : Type 0 where
   pub key : Bytes
   pub pairs : List (Bytes × Bytes)
+  pub rows : Rows
+  pub place : ℕ
+
+-- row i of a map
+abbrev pub row_seen : Rows → ℕ → Row
+row_seen m i = record { key = nth (firsts m) i; pairs = row_at m i; rows = m; place = i }
+
+-- n rows of a map, from row i on
+abbrev pub rows_seen : Rows → ℕ → ℕ → List Row
+rows_seen m i n = map (row_seen m) (range_with_len i n)
 
 -- the bytes of a map's vectors
 abbrev pub parts_of : Map2d → Parts
@@ -48,6 +59,15 @@ bytes_of p = record {
 abbrev pub IsBorrowed : Map2d → Type 0
 IsBorrowed m = (m.keys0.owned ≡ false) × (m.joiner.owned ≡ false) × (m.keys1.owned ≡ false)
     × (m.values.owned ≡ false)
+
+-- the same map in the same bytes, each vector borrowed or owned as it was
+pub record IsCopy (before after : Map2d) : Type 0 where
+  pub rows : after.rows ≡ before.rows
+  pub parts : parts_of after ≡ parts_of before
+  pub keys0 : after.keys0.owned ≡ before.keys0.owned
+  pub joiner : after.joiner.owned ≡ before.joiner.owned
+  pub keys1 : after.keys1.owned ≡ before.keys1.owned
+  pub values : after.values.owned ≡ before.values.owned
 
 -- bytes have no fault, and are read as the list
 pub record ReadsAs (fault : List ℕ → Option UleError) (read : List ℕ → List Bytes)

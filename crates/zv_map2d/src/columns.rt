@@ -1,25 +1,22 @@
 // The four vectors of a map, seen as its rows.
-ghost use Rattle.std.specs.Prelude.{◌≡◌, ℕ, suc, ◌+◌, ◌^◌, ◌<◌, ◌≤◌, [], length, option_map};
-ghost use Rattle.std.specs.Prelude.{slice_get};
+ghost use Rattle.std.specs.Prelude.{◌≡◌, ℕ, suc, ◌+◌, ◌^◌, ◌<◌, ◌≤◌, [], length};
 ghost use Rattle.std.specs.List.{flat_map};
 ghost use Rattle.zv_ule.specs.Bytes.{le};
 ghost use Rattle.std.specs.Result.{MatchResult};
 ghost use Rattle.zv_ule.specs.Search.{IsGap, compared};
-ghost use Rattle.zv_ule.specs.Views.{element_of};
-ghost use Rattle.zv_map.specs.Iters.{left_of};
-ghost use Rattle.zv_map.specs.Maps.{IsAt, keys_of, values_of};
-ghost use Rattle.zv_map2d.specs.Keys.{nth};
-ghost use Rattle.zv_map2d.specs.Rows.{IsWell, before, ends, find, firsts, row_at, seconds};
+ghost use Rattle.zv_map.specs.Maps.{IsAt, keys_of};
+ghost use Rattle.zv_map2d.specs.Rows.{IsWell, before, ends, firsts, row_at, seconds};
 ghost use Rattle.zv_map2d.specs.Rows.{values};
 ghost use Rattle.zv_map2d.specs.Views.{KeepsRoom, ReadsAs, bytes_of, no_bytes, parts_of};
 ghost use Rattle.zv_map2d.specs.Views.{written_parts};
 
+use crate::borrowed::ZeroMap2dBorrowed;
 use crate::order::number_at;
 use crate::parts::Parts;
 use std::marker::{Model, PhantomData};
 use zv_fixed::ZeroVec;
-use zv_map::{ZeroMapIter, ZeroVecSearch, ZvContainer};
-use zv_ule::{VarRef, ZvKind, ZvOrd, ZvOrdArg};
+use zv_map::{ZeroVecSearch, ZvContainer};
+use zv_ule::{ZvKind, ZvOrd, ZvOrdArg};
 
 /// The four vectors of a map: the first keys, for each row where it ends, and all second keys and
 /// values, row after row.
@@ -114,6 +111,8 @@ impl<
     C1: ZvContainer<K1>,
     D: ZvContainer<V>,
 > Columns<'a, K0, K1, V, C0, C1, D> {
+    ghost use Rattle.zv_map2d.specs.Borrowed.{parts_in, rows_in};
+
     /// How many rows there are.
     #[inline]
     pub(crate) fn rows(&self) -> usize
@@ -196,59 +195,18 @@ impl<
         }
     }
 
-    /// The first key of the row.
-    pub(crate) fn first_key(&self, row: usize) -> VarRef<'_, K0>
-        requires { row < length self.now.rows }
-        ensures { element_of result ≡ nth (firsts self.now.rows) row }
+    /// The same map, of the same bytes, as views.
+    pub(crate) fn as_borrowed(&self) -> ZeroMap2dBorrowed<'_, K0, K1, V>
+        requires { IsWell K0.cmp K1.cmp self.now.rows }
+        ensures rows { rows_in result ≡ self.now.rows }
+        ensures parts { parts_in result ≡ parts_of self.now }
     {
-        match self.keys0.zvl_get(row) {
-            Some(key) => key,
-            None => unreachable!(),
+        ZeroMap2dBorrowed {
+            keys0: self.keys0.zvl_as_borrowed(),
+            joiner: self.joiner.as_slice(),
+            keys1: self.keys1.zvl_as_borrowed(),
+            values: self.values.zvl_as_borrowed(),
         }
-    }
-
-    /// The value of a pair of the row.
-    pub(crate) fn value_at(&self, row: usize, pair: usize) -> Option<VarRef<'_, V>>
-        requires row { row < length self.now.rows }
-        requires pair { pair < length (row_at self.now.rows row) }
-        ensures { option_map element_of result
-            ≡ slice_get (values_of (row_at self.now.rows row)) pair }
-    {
-        self.values.zvl_get(self.pair_start(row, pair))
-    }
-
-    /// The value of the pair of keys, if there is one.
-    pub(crate) fn get_2d<Q0: ZvOrdArg<K0>, Q1: ZvOrdArg<K1>>(
-        &self,
-        key0: &Q0,
-        key1: &Q1,
-    ) -> Option<VarRef<'_, V>>
-        requires well { IsWell K0.cmp K1.cmp self.now.rows }
-        requires key0 { length (Q0.bytes key0.now) < 2 ^ 64 }
-        requires key1 { length (Q1.bytes key1.now) < 2 ^ 64 }
-        ensures { option_map element_of result
-            ≡ find K0.cmp K1.cmp self.now.rows (Q0.bytes key0.now) (Q1.bytes key1.now) }
-    {
-        let Ok(row) = self.row_place(key0) else {
-            return None;
-        };
-        let Ok(pair) = self.pair_place(row, key1) else {
-            return None;
-        };
-        self.value_at(row, pair)
-    }
-
-    /// The pairs of the row, in order.
-    pub(crate) fn pairs(&self, row: usize) -> ZeroMapIter<'_, K1, V>
-        requires { row < length self.now.rows }
-        ensures { left_of result ≡ row_at self.now.rows row }
-    {
-        ZeroMapIter::between(
-            self.keys1.zvl_as_borrowed(),
-            self.values.zvl_as_borrowed(),
-            self.row_start(row),
-            self.row_end(row),
-        )
     }
 
     /// The bytes of the four vectors.

@@ -1,16 +1,16 @@
 // One row of a map.
-ghost use Rattle.std.specs.Prelude.{◌≡◌, ℕ, ◌^◌, ◌<◌, List, length, Option, IfSome};
-ghost use Rattle.std.specs.Prelude.{option_map};
-ghost use Rattle.std.specs.declared.cmp.Ordering.TheVariants.{Equal};
+ghost use Rattle.std.specs.Prelude.{◌≡◌, ℕ, ◌^◌, ◌<◌, ◌≤◌, ◌-◌, ◌↔◌, length, Option};
+ghost use Rattle.std.specs.Prelude.{IsTrue, map, option_map};
+ghost use Rattle.zv_ule.specs.Search.{AtMostDigits};
 ghost use Rattle.zv_ule.specs.Views.{element_of};
-ghost use Rattle.zv_map.specs.Iters.{left_of};
 ghost use Rattle.zv_map.specs.Maps.{look_up};
-ghost use Rattle.zv_map2d.specs.Rows.{row_of};
 
-use crate::map::Map2dOver;
-use std::marker::Model;
-use zv_map::{ZeroMapCopiedValues, ZeroMapIter, ZvContainer};
-use zv_ule::{VarRef, ZvKind, ZvOrd, ZvOrdArg};
+use crate::borrowed::ZeroMap2dBorrowed;
+use crate::copied::copied;
+use std::marker::{Brand, Model, PhantomData};
+use std::sync::ledger::{Blank, Ledger};
+use zv_map::{ZeroMapCopiedValues, ZeroMapIter};
+use zv_ule::{AsULE, Steps, VarRef, ZvKind, ZvOrd, ZvOrdArg};
 
 /// The pairs of a row, in order: each a second key and its value.
 pub type Iter1<'l, K1, V> = ZeroMapIter<'l, K1, V>;
@@ -21,97 +21,98 @@ pub type Iter1Copied<'l, K1, V> = ZeroMapCopiedValues<'l, K1, V>;
 /// One row of a map: a first key, and its pairs of a second key and a value in order. It is a place
 /// in the map, and takes no memory.
 #[derive(Drop)]
-pub struct ZeroMap2dCursor<
-    'l,
-    'a,
-    K0: ZvOrd,
-    K1: ZvOrd,
-    V: ZvKind,
-    C0: ZvContainer<K0>,
-    C1: ZvContainer<K1>,
-    D: ZvContainer<V>,
-> {
-    map: &'l Map2dOver<'a, K0, K1, V, C0, C1, D>,
-    row: usize,
+pub struct ZeroMap2dCursor<'l, 'a, K0: ZvOrd, K1: ZvOrd, V: ZvKind> {
+    pub(crate) map: ZeroMap2dBorrowed<'l, K0, K1, V>,
+    pub(crate) row: usize,
+    of: PhantomData<&'a ()>,
 }
 
-impl<
-    'l,
-    'a,
-    K0: ZvOrd,
-    K1: ZvOrd,
-    V: ZvKind,
-    C0: ZvContainer<K0>,
-    C1: ZvContainer<K1>,
-    D: ZvContainer<V>,
-> Model for ZeroMap2dCursor<'l, 'a, K0, K1, V, C0, C1, D> {
+impl<'l, 'a, K0: ZvOrd, K1: ZvOrd, V: ZvKind> Model for ZeroMap2dCursor<'l, 'a, K0, K1, V> {
     ghost use Rattle.std.specs.Prelude.{◌<◌, length};
-    ghost use Rattle.zv_map2d.specs.Keys.{nth};
-    ghost use Rattle.zv_map2d.specs.Rows.{firsts, row_at};
-    ghost use Rattle.zv_map2d.specs.Views.{Row};
+    ghost use Rattle.zv_map2d.specs.Borrowed.{rows_in};
+    ghost use Rattle.zv_map2d.specs.Views.{Row, row_seen};
 
     ghost Value = { Row };
 
-    ghost view = { λ c. record {
-      key = nth (firsts c.map.now.rows) c.row;
-      pairs = row_at c.map.now.rows c.row;
-    } };
+    ghost view = { λ c. row_seen (rows_in c.map) c.row };
 
-    ghost invariant = { λ c. c.row < length c.map.now.rows };
+    ghost invariant = { λ c. c.row < length (rows_in c.map) };
 }
 
-impl<
-    'a,
-    K0: ZvOrd,
-    K1: ZvOrd,
-    V: ZvKind,
-    C0: ZvContainer<K0>,
-    C1: ZvContainer<K1>,
-    D: ZvContainer<V>,
-> Map2dOver<'a, K0, K1, V, C0, C1, D> {
-    /// The row of a first key, if there is one. It is one search.
-    pub fn get0<'l, Q0: ZvOrdArg<K0>>(
-        &'l self,
-        key0: &Q0,
-    ) -> Option<ZeroMap2dCursor<'l, 'a, K0, K1, V, C0, C1, D>>
-        requires { length (Q0.bytes key0.now) < 2 ^ 64 }
-        ensures row { option_map (λ c. (c.key, c.pairs)) result
-            ≡ row_of K0.cmp self.now.rows (Q0.bytes key0.now) }
-        ensures pairs { option_map (λ c. c.pairs) result
-            ≡ look_up K0.cmp self.now.rows (Q0.bytes key0.now) }
-        ensures key { IfSome result (λ c. K0.cmp c.key (Q0.bytes key0.now) ≡ Equal) }
+impl<'b, K0: ZvOrd, K1: ZvOrd, V: ZvKind> ZeroMap2dBorrowed<'b, K0, K1, V> {
+    ghost use Rattle.zv_map2d.specs.Borrowed.{rows_in};
+    ghost use Rattle.zv_map2d.specs.Views.{row_seen};
+
+    /// The row at a place.
+    #[inline]
+    pub(crate) fn cursor<'a>(&self, row: usize) -> ZeroMap2dCursor<'b, 'a, K0, K1, V>
+        requires { row < length (rows_in self.now) }
+        ensures { result ≡ row_seen (rows_in self.now) row }
     {
-        match self.row_place(key0) {
-            Ok(row) => Some(ZeroMap2dCursor { map: self, row }),
-            Err(_) => None,
+        ZeroMap2dCursor {
+            map: *self,
+            row,
+            of: PhantomData,
         }
     }
 }
 
-impl<
-    'l,
-    'a,
-    K0: ZvOrd,
-    K1: ZvOrd,
-    V: ZvKind,
-    C0: ZvContainer<K0>,
-    C1: ZvContainer<K1>,
-    D: ZvContainer<V>,
-> ZeroMap2dCursor<'l, 'a, K0, K1, V, C0, C1, D> {
+impl<'l, 'a, K0: ZvOrd, K1: ZvOrd, V: ZvKind> ZeroMap2dCursor<'l, 'a, K0, K1, V> {
+    ghost use Rattle.zv_map.specs.Iters.{left_of};
+
     /// The row's first key.
     pub fn key0(&self) -> VarRef<'l, K0>
         ensures { element_of result ≡ self.now.key }
     {
-        let map = self.map;
-        map.columns.first_key(self.row)
+        self.map.first_key(self.row)
     }
 
     /// The row's pairs, in order.
     pub fn iter1(&self) -> Iter1<'l, K1, V>
         ensures { left_of result ≡ self.now.pairs }
     {
-        let map = self.map;
-        map.columns.pairs(self.row)
+        self.map.pairs(self.row)
+    }
+
+    /// The row's pairs, in order.
+    pub fn into_iter1(self) -> Iter1<'l, K1, V>
+        ensures { left_of result ≡ self.entry.pairs }
+    {
+        self.iter1()
+    }
+
+    /// The value of the row's pair with a second key, if there is one, with each comparison counted
+    /// as a step. It is one search.
+    pub fn get1_counted<Q1: ZvOrdArg<K1>, L: Ledger>(
+        &self,
+        key1: &Q1,
+        steps: &mut Steps<L>,
+    ) -> Option<VarRef<'l, V>>
+        requires { length (Q1.bytes key1.now) < 2 ^ 64 }
+        ensures value { option_map element_of result
+            ≡ look_up K1.cmp self.now.pairs (Q1.bytes key1.now) }
+        ensures digits { AtMostDigits (steps.new - steps.old) (length self.now.pairs) }
+        ensures counted { steps.old ≤ steps.new }
+    {
+        let Ok(pair) = self.map.pair_place(self.row, key1, steps) else {
+            return None;
+        };
+        self.map.value_at(self.row, pair)
+    }
+
+    // The look-up with a counter that nobody reads.
+    fn get1_from<Q1: ZvOrdArg<K1>, L: Ledger>(
+        &self,
+        key1: &Q1,
+        blank: Blank,
+    ) -> Option<VarRef<'l, V>>
+        requires key1 { length (Q1.bytes key1.now) < 2 ^ 64 }
+        requires name { blank.name ≡ L.name }
+        requires parts { blank.parts ≡ L.parts }
+        requires some { 0 < blank.parts }
+        ensures { option_map element_of result ≡ look_up K1.cmp self.now.pairs (Q1.bytes key1.now) }
+    {
+        self.get1_counted(key1, &mut Steps::<L>::start(blank))
     }
 
     /// The value of the row's pair with a second key, if there is one. It is one search.
@@ -119,11 +120,45 @@ impl<
         requires { length (Q1.bytes key1.now) < 2 ^ 64 }
         ensures { option_map element_of result ≡ look_up K1.cmp self.now.pairs (Q1.bytes key1.now) }
     {
-        let map = self.map;
-        let row = self.row;
-        let Ok(pair) = map.pair_place(row, key1) else {
-            return None;
-        };
-        map.columns.value_at(row, pair)
+        self.get1_from::<Q1, Brand>(key1, Blank::new(1))
+    }
+
+    /// Whether two rows stand at the same place of maps with the same pairs.
+    pub fn same(&self, other: &Self) -> bool
+        ensures { IsTrue result ↔ ((self.now.rows ≡ other.now.rows)
+            × (self.now.place ≡ other.now.place)) }
+    {
+        self.row == other.row && self.map.same(other.map)
+    }
+}
+
+impl<'l, 'a, K0: ZvOrd, K1: ZvOrd, V: AsULE> ZeroMap2dCursor<'l, 'a, K0, K1, V> {
+    ghost use Rattle.zv_map.specs.Iters.{copied_values_left};
+
+    /// The row's pairs, in order, their values read into hand.
+    pub fn iter1_copied(&self) -> Iter1Copied<'l, K1, V>
+        ensures { copied_values_left (λ b. V.loaded (V.ULE.value b)) result
+            ≡ map (λ p. (p.0, V.loaded (V.ULE.value p.1))) self.now.pairs }
+    {
+        self.iter1().copied_values()
+    }
+
+    /// The row's pairs, in order, their values read into hand.
+    pub fn into_iter1_copied(self) -> Iter1Copied<'l, K1, V>
+        ensures { copied_values_left (λ b. V.loaded (V.ULE.value b)) result
+            ≡ map (λ p. (p.0, V.loaded (V.ULE.value p.1))) self.entry.pairs }
+    {
+        self.iter1_copied()
+    }
+
+    /// The value of the row's pair with a second key, as a value in hand.
+    pub fn get1_copied<Q1: ZvOrdArg<K1>>(&self, key1: &Q1) -> Option<V>
+        requires { length (Q1.bytes key1.now) < 2 ^ 64 }
+        ensures value { result ≡ option_map (λ b. V.loaded (V.ULE.value b))
+            (look_up K1.cmp self.now.pairs (Q1.bytes key1.now)) }
+        ensures stored { option_map (λ v. V.ULE.chunk (V.stored v)) result
+            ≡ look_up K1.cmp self.now.pairs (Q1.bytes key1.now) }
+    {
+        copied(self.get1(key1))
     }
 }

@@ -2,6 +2,7 @@
 ghost use Rattle.zv_map2d.specs.Changes.{FirstPair, KeysThere, LongValues, MissingPair};
 ghost use Rattle.zv_map2d.specs.Changes.{NewFirstRow, NewPair, OneOfTwo, OnlyPair, OtherValue};
 ghost use Rattle.zv_map2d.specs.FiniteMap.{DelIsGone, DelIsWell, DelLeavesOthers, FoundAlike};
+ghost use Rattle.zv_map2d.specs.FiniteMap.{FoundInRow};
 ghost use Rattle.zv_map2d.specs.FiniteMap.{PutIsFound, PutIsWell, PutLeavesOthers, TextsAreExact};
 ghost use Rattle.zv_map2d.specs.ImageRows.{Alone, Counts, Empty, Ends, Finds, Lengths, Neighbours};
 ghost use Rattle.zv_map2d.specs.ImageRows.{NoFrame, OnePair, OtherSpellings, OwnErrors, Prefixes};
@@ -51,10 +52,11 @@ pub fn changes()
     ensures same { SameCanon }
 {}
 
-/// A map in two levels is a finite map: after a put the pair has that value, after a removal it has
-/// none, any other pair has what it had, and maps in which the same is found are the same. It does
-/// nothing.
+/// A map in two levels is a finite map: what a pair has is what its second key has in the row of
+/// its first, after a put the pair has that value, after a removal it has none, any other pair has
+/// what it had, and maps in which the same is found are the same. It does nothing.
 pub fn finite_map()
+    ensures row { FoundInRow }
     ensures put { PutIsFound }
     ensures put_others { PutLeavesOthers }
     ensures put_well { PutIsWell }

@@ -8,7 +8,10 @@
 //! containers.
 #![tactic(auto)]
 
+pub mod borrowed;
 mod columns;
+mod copied;
+mod copies;
 pub mod cursor;
 mod edits;
 pub mod error;
@@ -20,9 +23,14 @@ mod order;
 mod parse;
 pub mod parts;
 mod place;
+mod predicates;
+mod reads;
+pub mod rows;
 
+pub use borrowed::ZeroMap2dBorrowed;
 pub use cursor::{Iter1, Iter1Copied, ZeroMap2dCursor};
 pub use error::{EditError, Map2dError};
 pub use image::{cut_parts, parse_image};
 pub use map::{Map2dOver, ZeroMap2d};
 pub use parts::Parts;
+pub use rows::ZeroMap2dIter0;

@@ -3,15 +3,11 @@ ghost use Rattle.std.specs.Prelude.{◌≡◌, ℕ, ◌==◌, ◌+◌, ◌^◌, 
 ghost use Rattle.std.specs.Prelude.{IfOk, IfErr, OnErr, OnOk, is_none, is_ok, is_some};
 ghost use Rattle.std.specs.Prelude.{nat_lt, option_map};
 ghost use Rattle.std.specs.List.{flat_map};
-ghost use Rattle.std.specs.Result.{MatchResult};
-ghost use Rattle.zv_map.specs.Maps.{IsAt, keys_of};
 ghost use Rattle.zv_ule.specs.Bytes.{le};
-ghost use Rattle.zv_ule.specs.Search.{IsGap, compared};
-ghost use Rattle.zv_ule.specs.Views.{element_of};
 ghost use Rattle.zv_map2d.specs.Fits.{fits, rule_of};
 ghost use Rattle.zv_map2d.specs.Room.{HasRoomFor, IsOwned, IsSameMap, SpendsFor};
 ghost use Rattle.zv_map2d.specs.Refusals.{RefusedUnless, is_full};
-ghost use Rattle.zv_map2d.specs.Rows.{IsWell, del, ends, find, firsts, put, row_at, seconds};
+ghost use Rattle.zv_map2d.specs.Rows.{IsWell, del, ends, find, firsts, put, seconds};
 ghost use Rattle.zv_map2d.specs.Rows.{values};
 ghost use Rattle.zv_map2d.specs.Views.{IsBorrowed, KeepsRoom, ReadsAs};
 ghost use Rattle.zv_map2d.specs.Views.{bytes_of, no_bytes, parts_of, written_parts};
@@ -23,7 +19,7 @@ use std::alloc::Global;
 use std::marker::{Model, PhantomData};
 use zv_fixed::ZeroVec;
 use zv_map::{MutableZeroVecLike, TooLarge, ZeroMapKV, ZvContainer};
-use zv_ule::{NoMemory, VarRef, ZvArg, ZvKind, ZvOrd, ZvOrdArg};
+use zv_ule::{NoMemory, ZvArg, ZvKind, ZvOrd, ZvOrdArg};
 
 /// A map in two levels, over the containers of its first keys, its second keys and its values.
 ///
@@ -149,44 +145,6 @@ impl<
         ensures { IsWell K0.cmp K1.cmp self.now.rows }
     {
         let _ = &self.columns;
-    }
-
-    /// The place of the first key's row, or where it would go.
-    pub(crate) fn row_place<Q: ZvOrdArg<K0>>(&self, key: &Q) -> Result<usize, usize>
-        requires { length (Q.bytes key.now) < 2 ^ 64 }
-        ensures { MatchResult result
-            (IsAt (compared K0.cmp (firsts self.now.rows) (Q.bytes key.now)))
-            (IsGap (compared K0.cmp (firsts self.now.rows) (Q.bytes key.now))) }
-    {
-        self.columns.row_place(key)
-    }
-
-    /// The place in the row of the pair with the second key, or where it would go.
-    pub(crate) fn pair_place<Q: ZvOrdArg<K1>>(&self, row: usize, key: &Q) -> Result<usize, usize>
-        requires row { row < length self.now.rows }
-        requires key { length (Q.bytes key.now) < 2 ^ 64 }
-        ensures { MatchResult result
-            (IsAt (compared K1.cmp (keys_of (row_at self.now.rows row)) (Q.bytes key.now)))
-            (IsGap (compared K1.cmp (keys_of (row_at self.now.rows row)) (Q.bytes key.now))) }
-    {
-        self.columns.pair_place(row, key)
-    }
-
-    /// The value of the pair of keys, if there is one.
-    ///
-    /// It searches the first keys and then one row's second keys, each by halving, and takes no
-    /// memory.
-    pub fn get_2d<Q0: ZvOrdArg<K0>, Q1: ZvOrdArg<K1>>(
-        &self,
-        key0: &Q0,
-        key1: &Q1,
-    ) -> Option<VarRef<'_, V>>
-        requires key0 { length (Q0.bytes key0.now) < 2 ^ 64 }
-        requires key1 { length (Q1.bytes key1.now) < 2 ^ 64 }
-        ensures { option_map element_of result
-            ≡ find K0.cmp K1.cmp self.now.rows (Q0.bytes key0.now) (Q1.bytes key1.now) }
-    {
-        self.columns.get_2d(key0, key1)
     }
 }
 

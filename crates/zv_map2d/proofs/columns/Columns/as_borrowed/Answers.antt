@@ -1,0 +1,15 @@
+use Rattle.zv_map2d.proofs.Flat.{view_of}
+use Rattle.zv_map2d.proofs.Seen.{same_lists, seen, views}
+use Rattle.zv_map2d.proofs.columns.Columns.as_borrowed.Goals as goal
+
+pub invariant_of-result : goal.invariant_of-result
+invariant_of-result g c =
+    let flat = same_lists c.zvl_as_borrowed.ensures.list c.as_slice.ensures.values c.zvl_as_borrowed-2.ensures.list c.zvl_as_borrowed-3.ensures.list
+    (seen c.self.view_is c.self.invariant) in
+    let both = views g.K0.ZvOrd.cmp g.K1.ZvOrd.cmp flat c.requires in
+    record { flat = both.0; well = both.1 }
+
+pub returns-clause-rows : goal.returns-clause-rows
+returns-clause-rows g c =
+    view_of _ _ _ _ _ (same_lists c.zvl_as_borrowed.ensures.list c.as_slice.ensures.values c.zvl_as_borrowed-2.ensures.list c.zvl_as_borrowed-3.ensures.list
+    (seen c.self.view_is c.self.invariant))
