@@ -5,7 +5,7 @@
 #     bench/kernels.sh [PROGRAM]
 #
 # PROGRAM is one that times the same changes with the crate zerovec, by the names that bench/changes.txt prints; its
-# checksums are the same where it makes the same lists.
+# checksums are the same where it makes the same lists. What it prints of parse_text is the validation of 10,000 texts.
 #
 # The timing programs, bench/timing.txt and bench/changes.txt, are Rattle crates that are no part of the gate: they are
 # proved and built in a copy of the repository.
@@ -36,7 +36,7 @@ for _ in 1 2; do
     echo "-- this repository"
     crates/zv_timing/out/zv_timing
     crates/zv_changes/out/zv_changes
-    if [ $# -gt 0 ]; then echo "-- zerovec"; "$1" text16 map2d; fi
+    if [ $# -gt 0 ]; then echo "-- zerovec"; "$1" parse_text text16 map2d; fi
     if [ -x reference ]; then echo "-- plain Rust over std"; ./reference; fi
     if [ -x digest ]; then echo "-- xxHash's own library"; ./digest; fi
 done

@@ -1,7 +1,8 @@
 // Bytes that are borrowed until the first change, and then owned.
 ghost use Rattle.std.specs.Prelude.{◌≡◌, ◌+◌, ◌-◌, ◌^◌, ◌<◌, ◌≤◌, [], ◌++◌, length};
 ghost use Rattle.std.specs.Prelude.{true, false, None, IsTrue, IfOk, IsOk, OnOk, OnErr};
-ghost use Rattle.std.specs.Prelude.{MatchOption, slice_range, vec_capacity, vec_len};
+ghost use Rattle.std.specs.Prelude.{MatchOption, replicate, slice_range, take, drop, vec_capacity};
+ghost use Rattle.std.specs.Prelude.{vec_len};
 ghost use Rattle.std.specs.List.{remove_range, splice};
 ghost use Rattle.zv_fixed.specs.CowBytes.{bytes_in, owned_in, spare_in, IsUnchanged};
 
@@ -73,12 +74,7 @@ impl<'a> CowBytes<'a> {
         ensures spare { spare_in self.old ≤ spare_in self.new }
     {
         match self {
-            CowBytes::Borrowed(bytes) => {
-                let capacity = bytes.len().checked_add(more).ok_or(NoMemory)?;
-                let mut owned = Vec::with_capacity(alloc, capacity)?;
-                owned.extend_from_slice(bytes)?;
-                *self = CowBytes::Owned(owned);
-            }
+            CowBytes::Borrowed(bytes) => *self = CowBytes::Owned(copied(alloc, bytes, more)?),
             CowBytes::Owned(bytes) => bytes.reserve(more)?,
         }
         Ok(())
@@ -161,14 +157,19 @@ impl<'a> CowBytes<'a> {
         ensures spare { spare_in self.old ≤ spare_in self.new + length (Q.bytes value.now) }
         ensures spells { K.fault (Q.bytes value.now) ≡ None }
     {
+        let count = value.arg_len();
         match self {
             CowBytes::Borrowed(bytes) => {
-                let (front, back) = bytes.split_at(at);
-                *self = CowBytes::Owned(joined(alloc, front, value, back)?);
-                Ok(())
+                let mut owned = with_gap(alloc, bytes, at, at, count)?;
+                write_at(&mut owned, at, value);
+                *self = CowBytes::Owned(owned);
             }
-            CowBytes::Owned(bytes) => insert_into(bytes, at, value),
+            CowBytes::Owned(bytes) => {
+                open_gap(bytes, at, count)?;
+                write_at(bytes, at, value);
+            }
         }
+        Ok(())
     }
 
     /// Writes an argument over the bytes from one place up to another. Borrowed bytes need an
@@ -192,13 +193,14 @@ impl<'a> CowBytes<'a> {
         ensures fits { owned_in self.old ≡ true → IsOk result }
         ensures spare { spare_in self.old ≤ spare_in self.new }
         ensures in_place { owned_in self.old ≡ true → spare_in self.new ≡ spare_in self.old }
-        ensures spells { K.fault (Q.bytes value.now) ≡ None }
     {
         match self {
             CowBytes::Borrowed(bytes) => {
-                *self = CowBytes::Owned(joined(alloc, &bytes[..start], value, &bytes[end..])?);
+                let mut owned = with_gap(alloc, bytes, start, end, end - start)?;
+                write_at(&mut owned, start, value);
+                *self = CowBytes::Owned(owned);
             }
-            CowBytes::Owned(bytes) => value.arg_write(&mut bytes[start..end]),
+            CowBytes::Owned(bytes) => write_at(bytes, start, value),
         }
         Ok(())
     }
@@ -221,11 +223,7 @@ impl<'a> CowBytes<'a> {
     {
         match self {
             CowBytes::Borrowed(bytes) => {
-                let alloc = alloc.ok_or(NoMemory)?;
-                let mut kept = Vec::with_capacity(alloc, bytes.len() - (end - start))?;
-                kept.extend_from_slice(&bytes[..start])?;
-                kept.extend_from_slice(&bytes[end..])?;
-                *self = CowBytes::Owned(kept);
+                *self = CowBytes::Owned(with_gap(alloc, bytes, start, end, 0)?);
             }
             CowBytes::Owned(bytes) => {
                 bytes.copy_within(end.., start);
@@ -236,53 +234,68 @@ impl<'a> CowBytes<'a> {
     }
 }
 
-/// New bytes: those in front, what the argument writes, and those behind.
-fn joined<K: ZvKind, Q: ZvArg<K>>(
-    alloc: Option<Global>,
-    front: &[u8],
-    value: &Q,
-    back: &[u8],
-) -> Result<Vec<u8>, NoMemory>
-    requires usable { IsTrue K.usable }
-    requires below { length (Q.bytes value.now) < 2 ^ 64 }
-    ensures spells { K.fault (Q.bytes value.now) ≡ None }
-    ensures items { IfOk result (λ v. v.items ≡ front.now ++ (Q.bytes value.now ++ back.now)) }
+/// A copy of the bytes, with room for `more`.
+fn copied(alloc: Global, bytes: &[u8], more: usize) -> Result<Vec<u8>, NoMemory>
+    ensures items { IfOk result (λ v. v.items ≡ bytes.now) }
+    ensures room { IfOk result (λ v. more ≤ vec_capacity v - vec_len v) }
 {
-    let start = front.len();
-    let end = start.checked_add(value.arg_len()).ok_or(NoMemory)?;
-    let len = end.checked_add(back.len()).ok_or(NoMemory)?;
-    let mut bytes = Vec::with_capacity(alloc.ok_or(NoMemory)?, len)?;
-    bytes.extend_from_slice(front)?;
-    bytes.resize(end, 0)?;
-    value.arg_write(&mut bytes[start..end]);
-    bytes.extend_from_slice(back)?;
-    Ok(bytes)
+    let capacity = bytes.len().checked_add(more).ok_or(NoMemory)?;
+    let mut owned = Vec::with_capacity(alloc, capacity)?;
+    owned.extend_from_slice(bytes)?;
+    Ok(owned)
 }
 
-/// Moves the bytes from a place on up and writes an argument into the gap.
-fn insert_into<K: ZvKind, Q: ZvArg<K>>(
-    bytes: &mut Vec<u8>,
-    at: usize,
-    value: &Q,
-) -> Result<(), NoMemory>
-    requires usable { IsTrue K.usable }
-    requires below { length (Q.bytes value.now) < 2 ^ 64 }
-    requires place { at ≤ length bytes.old.items }
-    ensures ok { OnOk result (bytes.new.items ≡ splice bytes.old.items at at (Q.bytes value.now)) }
-    ensures spells { K.fault (Q.bytes value.now) ≡ None }
+/// A copy of the bytes in which those from one place up to another are so many zeros.
+fn with_gap(
+    alloc: Option<Global>,
+    bytes: &[u8],
+    start: usize,
+    end: usize,
+    count: usize,
+) -> Result<Vec<u8>, NoMemory>
+    requires order { start ≤ end }
+    requires place { end ≤ length bytes.now }
+    ensures { IfOk result (λ v. v.items ≡ splice bytes.now start end (replicate count 0)) }
+{
+    let after = start.checked_add(count).ok_or(NoMemory)?;
+    let room = after.saturating_add(bytes.len() - end);
+    let mut owned = Vec::with_capacity(alloc.ok_or(NoMemory)?, room)?;
+    owned.extend_from_slice(&bytes[..start])?;
+    owned.resize(after, 0)?;
+    owned.extend_from_slice(&bytes[end..])?;
+    Ok(owned)
+}
+
+/// Moves the bytes from a place on up by so many, which may be anything then.
+fn open_gap(bytes: &mut Vec<u8>, at: usize, count: usize) -> Result<(), NoMemory>
+    requires { at ≤ length bytes.old.items }
+    ensures front { OnOk result (take at bytes.new.items ≡ take at bytes.old.items) }
+    ensures back { OnOk result (drop (at + count) bytes.new.items ≡ drop at bytes.old.items) }
+    ensures long { OnOk result (length bytes.new.items ≡ length bytes.old.items + count) }
     ensures err { OnErr result (bytes.new.items ≡ bytes.old.items) }
     ensures err_spare { OnErr result (vec_capacity bytes.new - vec_len bytes.new
         ≡ vec_capacity bytes.old - vec_len bytes.old) }
-    ensures fits { length (Q.bytes value.now) ≤ vec_capacity bytes.old - vec_len bytes.old
-        → IsOk result }
+    ensures fits { count ≤ vec_capacity bytes.old - vec_len bytes.old → IsOk result }
     ensures spare { vec_capacity bytes.old - vec_len bytes.old
-        ≤ vec_capacity bytes.new - vec_len bytes.new + length (Q.bytes value.now) }
+        ≤ vec_capacity bytes.new - vec_len bytes.new + count }
 {
-    let count = value.arg_len();
     let len = bytes.len();
     bytes.reserve(count)?;
     let _ = bytes.resize(len + count, 0);
     bytes.copy_within(at..len, at + count);
-    value.arg_write(&mut bytes[at..at + count]);
     Ok(())
+}
+
+/// Writes an argument over the bytes from a place on.
+#[inline]
+fn write_at<K: ZvKind, Q: ZvArg<K>>(bytes: &mut [u8], at: usize, value: &Q)
+    requires usable { IsTrue K.usable }
+    requires below { length (Q.bytes value.now) < 2 ^ 64 }
+    requires place { at + length (Q.bytes value.now) ≤ length bytes.old }
+    ensures written { bytes.new
+        ≡ splice bytes.old at (at + length (Q.bytes value.now)) (Q.bytes value.now) }
+    ensures spells { K.fault (Q.bytes value.now) ≡ None }
+{
+    let end = at + value.arg_len();
+    value.arg_write(&mut bytes[at..end]);
 }

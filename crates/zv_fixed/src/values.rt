@@ -1,18 +1,51 @@
 // Values that are written as their chunks.
-ghost use Rattle.std.specs.Prelude.{◌≡◌, ◌*◌, length, flat_map, None, IsTrue, IfOk};
+ghost use Rattle.std.specs.Prelude.{◌≡◌, ◌*◌, ◌++◌, length, flat_map, None, IsTrue, IfOk, OnOk};
 ghost use Rattle.zv_ule.specs.Chunks.{chunks_fault, values_of};
 ghost use Rattle.zv_ule.specs.Fixed.{is_width};
 
 use std::alloc::Global;
 use zv_ule::{AsULE, NoMemory, ULE, store};
 
-/// Bytes for so many chunks.
-pub fn zeros<U: ULE>(alloc: Global, count: usize) -> Result<Vec<u8>, NoMemory>
+/// Adds the chunk of a value to bytes.
+#[inline]
+fn push_chunk<U: ULE>(bytes: &mut Vec<u8>, value: U) -> Result<(), NoMemory>
     requires { IsTrue (is_width U.width) }
-    ensures { IfOk result (λ bytes. length bytes.items ≡ count * U.width) }
+    ensures { OnOk result (bytes.new.items ≡ bytes.old.items ++ U.chunk value) }
 {
-    let len = count.checked_mul(U::size()).ok_or(NoMemory)?;
-    Ok(vec![in alloc; 0; len]?)
+    let start = bytes.len();
+    bytes.resize(start.checked_add(U::size()).ok_or(NoMemory)?, 0)?;
+    value.write_chunk(&mut bytes[start..]);
+    Ok(())
+}
+
+/// The chunks of values that are given as they are stored, one after another.
+pub fn joined<U: ULE>(alloc: Global, values: &[U]) -> Result<Vec<u8>, NoMemory>
+    requires { IsTrue (is_width U.width) }
+    ensures { IfOk result (λ bytes. bytes.items ≡ flat_map U.chunk values.now) }
+{
+    let len = values.len().checked_mul(U::size()).ok_or(NoMemory)?;
+    let mut bytes = Vec::with_capacity(alloc, len)?;
+    for value in values {
+        push_chunk(&mut bytes, *value)?;
+    }
+    Ok(bytes)
+}
+
+/// The chunks of values, one after another.
+pub fn stored<T: AsULE>(alloc: Global, values: &[T]) -> Result<Vec<u8>, NoMemory>
+    requires { IsTrue T.usable }
+    ensures { IfOk result (λ bytes. bytes.items
+        ≡ flat_map (λ v. T.ULE.chunk (T.stored v)) values.now) }
+{
+    let len = values
+        .len()
+        .checked_mul(<T::ULE as ULE>::size())
+        .ok_or(NoMemory)?;
+    let mut bytes = Vec::with_capacity(alloc, len)?;
+    for value in values {
+        push_chunk(&mut bytes, value.to_unaligned())?;
+    }
+    Ok(bytes)
 }
 
 /// The chunks of values, one after another, are a list of just these values. The loop is empty once

@@ -48,13 +48,10 @@ fn characters_take_three_bytes(rt: HostRuntime) -> Result<(), Fail> {
     let chars = ['w', 'ω', '文', '𑄃', '🙃'];
     let bytes = b"\x77\x00\x00\xc9\x03\x00\x87\x65\x00\x03\x11\x01\x43\xf6\x01";
     let stored = CharULE::from_array(chars);
-    assert_eq!(rt;
-        written(&rt, rt.alloc(), &stored)?.as_bytes(),
-        bytes.as_slice()
-    );
+    assert!(rt; written(&rt, rt.alloc(), &stored)?.as_bytes() == bytes.as_slice());
     assert!(rt; are_values::<char>(bytes, &chars));
     let surrogate = <CharULE as ULE>::validate_bytes(b"\x00\xd8\x00");
-    assert_eq!(rt; surrogate, Err(UleError::parse(TyName::Char)));
+    assert!(rt; surrogate == Err(UleError::parse(TyName::Char)));
     Ok(())
 }
 
@@ -67,13 +64,10 @@ fn pairs_are_their_parts(rt: HostRuntime) -> Result<(), Fail> {
         pairs[1].to_unaligned(),
         pairs[2].to_unaligned(),
     ];
-    assert_eq!(rt;
-        written(&rt, rt.alloc(), &stored)?.as_bytes(),
-        bytes.as_slice()
-    );
+    assert!(rt; written(&rt, rt.alloc(), &stored)?.as_bytes() == bytes.as_slice());
     assert!(rt; are_values::<(u32, char)>(bytes, &pairs));
     let turned = <<(char, u32) as AsULE>::ULE as ULE>::validate_bytes(bytes);
-    assert_eq!(rt; turned, Err(UleError::parse(TyName::Char)));
+    assert!(rt; turned == Err(UleError::parse(TyName::Char)));
     Ok(())
 }
 
@@ -86,13 +80,10 @@ fn triples_are_their_parts(rt: HostRuntime) -> Result<(), Fail> {
         triples[1].to_unaligned(),
         triples[2].to_unaligned(),
     ];
-    assert_eq!(rt;
-        written(&rt, rt.alloc(), &stored)?.as_bytes(),
-        bytes.as_slice()
-    );
+    assert!(rt; written(&rt, rt.alloc(), &stored)?.as_bytes() == bytes.as_slice());
     assert!(rt; are_values::<(u32, char, i8)>(bytes, &triples));
     let turned = <<(char, i8, u32) as AsULE>::ULE as ULE>::validate_bytes(bytes);
-    assert_eq!(rt; turned, Err(UleError::parse(TyName::Char)));
+    assert!(rt; turned == Err(UleError::parse(TyName::Char)));
     Ok(())
 }
 
@@ -103,9 +94,9 @@ fn arrays_divide_six_bytes(rt: HostRuntime) -> Result<(), Fail> {
     assert!(rt; are_values::<[u8; 3]>(&bytes, &[[1, 2, 3], [4, 5, 6]]));
     assert!(rt; are_values::<[u8; 6]>(&bytes, &[[1, 2, 3, 4, 5, 6]]));
     let uneven = Err(UleError::length(TyName::Array, 6));
-    assert_eq!(rt; <[u8; 4] as ULE>::validate_bytes(&bytes), uneven);
-    assert_eq!(rt; <[u8; 5] as ULE>::validate_bytes(&bytes), uneven);
-    assert_eq!(rt; <[u8; 7] as ULE>::validate_bytes(&bytes), uneven);
+    assert!(rt; <[u8; 4] as ULE>::validate_bytes(&bytes) == uneven);
+    assert!(rt; <[u8; 5] as ULE>::validate_bytes(&bytes) == uneven);
+    assert!(rt; <[u8; 7] as ULE>::validate_bytes(&bytes) == uneven);
     Ok(())
 }
 
@@ -116,10 +107,10 @@ fn options_name_the_innermost_fault(rt: HostRuntime) -> Result<(), Fail> {
         are_values::<NichedOption<NonZeroU8, 1>>(&[1, 0], &[NichedOption(one), NichedOption(None)])
     );
     let inner = <OptionULE<bool> as ULE>::validate_bytes(&[1, 2]);
-    assert_eq!(rt; inner, Err(UleError::parse(TyName::Bool)));
+    assert!(rt; inner == Err(UleError::parse(TyName::Bool)));
     let tag = <OptionULE<bool> as ULE>::validate_bytes(&[2, 0]);
-    assert_eq!(rt; tag, Err(UleError::parse(TyName::Opt)));
+    assert!(rt; tag == Err(UleError::parse(TyName::Opt)));
     let rest = <OptionULE<u8> as ULE>::validate_bytes(&[0, 5]);
-    assert_eq!(rt; rest, Err(UleError::parse(TyName::Opt)));
+    assert!(rt; rest == Err(UleError::parse(TyName::Opt)));
     Ok(())
 }

@@ -222,7 +222,7 @@ fn seen<T: SliceAsULE>(slice: &[T]) -> Option<&[u8]> {
 
 #[test]
 fn only_bytes_are_seen_as_bytes(rt: HostRuntime) {
-    assert_eq!(rt; seen(&[7u8, 0, 9]), Some(b"\x07\0\x09".as_slice()));
+    assert!(rt; seen(&[7u8, 0, 9]) == Some(b"\x07\0\x09".as_slice()));
     assert!(rt; seen(&[7u16, 0, 9]).is_none());
     assert!(rt; seen(&[7u32]).is_none());
     assert!(rt; seen(&[7u64]).is_none());
@@ -247,10 +247,7 @@ fn raw<const N: usize, V: Into<RawBytesULE<N>>>(value: V) -> RawBytesULE<N> {
 
 #[test]
 fn numbers_become_raw_bytes(rt: HostRuntime) {
-    assert_eq!(rt;
-        raw::<3, [u8; 3]>([1, 2, 3]).as_bytes(),
-        b"\x01\x02\x03".as_slice()
-    );
+    assert!(rt; raw::<3, [u8; 3]>([1, 2, 3]).as_bytes() == b"\x01\x02\x03".as_slice());
     assert!(rt; raw::<2, u16>(0x0102) == RawBytesULE([2, 1]));
     assert!(rt; raw::<2, i16>(-2) == RawBytesULE([0xfe, 0xff]));
     assert!(rt; raw::<4, u32>(0x0102_0304) == RawBytesULE([4, 3, 2, 1]));
@@ -349,7 +346,7 @@ fn unsigned_numbers_have_containers(rt: HostRuntime) {
         are_kept::<u64>(&ones, 6),
         are_kept::<u128>(&ones, 3),
     ];
-    assert_eq!(rt; kept, [true; 5]);
+    assert!(rt; kept == [true; 5]);
 }
 
 #[test]
@@ -362,7 +359,7 @@ fn signed_numbers_have_containers(rt: HostRuntime) {
         are_kept::<i64>(&ones, 6),
         are_kept::<i128>(&ones, 3),
     ];
-    assert_eq!(rt; kept, [true; 5]);
+    assert!(rt; kept == [true; 5]);
 }
 
 #[test]
@@ -375,7 +372,7 @@ fn other_single_kinds_have_containers(rt: HostRuntime) {
         are_kept::<Option<u8>>(&ones, 24),
         are_kept::<NichedOption<NonZeroU8, 1>>(&ones, 48),
     ];
-    assert_eq!(rt; kept, [true; 5]);
+    assert!(rt; kept == [true; 5]);
 }
 
 #[test]
@@ -388,7 +385,7 @@ fn arrays_have_containers(rt: HostRuntime) {
         are_kept::<[u64; 2]>(&ones, 3),
         are_kept::<[char; 2]>(&ones, 8),
     ];
-    assert_eq!(rt; kept, [true; 5]);
+    assert!(rt; kept == [true; 5]);
 }
 
 #[test]
@@ -401,7 +398,7 @@ fn tuples_have_containers(rt: HostRuntime) {
         are_kept::<(u8, u8, u8, u8, u16)>(&ones, 8),
         are_kept::<(u8, u8, u8, u8, u8, u8)>(&ones, 8),
     ];
-    assert_eq!(rt; kept, [true; 5]);
+    assert!(rt; kept == [true; 5]);
 }
 
 // The container takes the text that an argument stands for.
@@ -413,7 +410,7 @@ fn takes<'a, C: MutableZeroVecLike<'a, StrULE>, Q: ZvArg<StrULE>>(
 )
     requires { length (Q.bytes text.now) < 2 ^ 64 }
 {
-    assert_eq!(rt; list.zvl_push(alloc, text), Ok(()));
+    assert!(rt; list.zvl_push(alloc, text) == Ok(()));
 }
 
 #[test]
@@ -426,10 +423,7 @@ fn arguments_for_texts_are_written(rt: HostRuntime) -> Result<(), Fail> {
     takes(&rt, alloc, &mut list, &text);
     takes(&rt, alloc, &mut list, &VarRef::of_str("c"));
     takes(&rt, alloc, &mut list, &written);
-    assert_eq!(rt;
-        list.zvl_bytes(),
-        b"\x04\0\x01\0\x02\0\x03\0abcd".as_slice()
-    );
+    assert!(rt; list.zvl_bytes() == b"\x04\0\x01\0\x02\0\x03\0abcd".as_slice());
     Ok(())
 }
 
@@ -439,20 +433,14 @@ fn a_list_is_an_element(rt: HostRuntime) {
         panic!(rt; "the bytes spell a and b");
     };
     let list = VarZeroSliceULE::as_varzeroslice(element);
-    assert_eq!(rt; list.len(), 2);
+    assert!(rt; list.len() == 2);
     let Some(text) = list.get(1) else {
         panic!(rt; "there are two texts");
     };
-    assert_eq!(rt; text.as_str(), "b");
+    assert!(rt; text.as_str() == "b");
     let error = UleError::parse(TyName::VarZeroSlice);
-    assert_eq!(rt;
-        VarZeroSliceULE::<StrULE, Index16>::check(b"\x02\0\x03\0ab"),
-        Err(error)
-    );
-    assert_eq!(rt;
-        VarZeroSliceULE::<StrULE, Index16>::check(b"\x01\0\xff"),
-        Err(error)
-    );
+    assert!(rt; VarZeroSliceULE::<StrULE, Index16>::check(b"\x02\0\x03\0ab") == Err(error));
+    assert!(rt; VarZeroSliceULE::<StrULE, Index16>::check(b"\x01\0\xff") == Err(error));
 }
 
 // Whether the bytes are refused with this error, as one element and as a list.
@@ -512,8 +500,8 @@ fn a_cut_chunk_is_named(rt: HostRuntime) {
 #[test]
 fn options_give_their_value(rt: HostRuntime) {
     let none = NichedOption::<NonZeroU8, 1>::default();
-    assert_eq!(rt; none.into_iter().count(), 0);
-    assert_eq!(rt; NichedOption::<u8, 1>(Some(7)).into_iter().next(), Some(7));
+    assert!(rt; none.into_iter().count() == 0);
+    assert!(rt; NichedOption::<u8, 1>(Some(7)).into_iter().next() == Some(7));
 }
 
 #[test]
@@ -521,7 +509,7 @@ fn fields_of_four_bytes(rt: HostRuntime) {
     let mut list = VarZeroVecOwned::<StrULE, Index32>::new(rt.alloc());
     list.push(&"a").expect(&rt, "memory");
     list.push(&"b").expect(&rt, "memory");
-    assert_eq!(rt; list.as_bytes(), b"\x02\0\0\0\x01\0\0\0ab".as_slice());
+    assert!(rt; list.as_bytes() == b"\x02\0\0\0\x01\0\0\0ab".as_slice());
 }
 
 #[test]

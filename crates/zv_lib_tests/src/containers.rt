@@ -13,23 +13,20 @@ type Of<'a, K> = <K as ZeroMapKV<'a>>::Container;
 
 // A container of the numbers 1, 3 and 5 is searched.
 fn finds_numbers<C: ZeroVecSearch<u16>>(rt: &impl Abort, list: &C) {
-    assert_eq!(rt; list.zvl_len(), 3);
-    assert_eq!(rt; list.zvl_binary_search(&3), Ok(1));
-    assert_eq!(rt; list.zvl_binary_search(&4), Err(2));
-    assert_eq!(rt; list.zvl_binary_search_in_range(&5, 1..3), Some(Ok(1)));
+    assert!(rt; list.zvl_len() == 3);
+    assert!(rt; list.zvl_binary_search(&3) == Ok(1));
+    assert!(rt; list.zvl_binary_search(&4) == Err(2));
+    assert!(rt; list.zvl_binary_search_in_range(&5, 1..3) == Some(Ok(1)));
     assert!(rt; list.zvl_is_ascending());
 }
 
 // The same container is searched by predicates.
 fn finds_numbers_by<C: ZeroVecSearchBy<u16>>(rt: &impl Abort, list: &C) {
-    assert_eq!(rt;
-        list.zvl_binary_search_by(|element| element.cmp(&[5, 0].as_slice())),
-        Ok(2)
-    );
+    assert!(rt; list.zvl_binary_search_by(|element| element.cmp(&[5, 0].as_slice())) == Ok(2));
     for (end, place) in [(3, Some(Err(1))), (4, None)] {
-        assert_eq!(rt;
-            list.zvl_binary_search_in_range_by(|element| element.cmp(&[4, 0].as_slice()), 1..end),
-            place
+        assert!(rt;
+            list.zvl_binary_search_in_range_by(|element| element.cmp(&[4, 0].as_slice()), 1..end)
+                == place
         );
     }
 }
@@ -47,7 +44,7 @@ fn is_borrowed<'a, T: ZvKind, C: MutableZeroVecLike<'a, T> + Drop>(
     let Some(again) = C::zvl_from_borrowed(raw) else {
         panic!(rt; "the view fits");
     };
-    assert_eq!(rt; again.zvl_bytes(), bytes);
+    assert!(rt; again.zvl_bytes() == bytes);
 }
 
 // The numbers 1, 3 and 5 become 1, 9 and 5.
@@ -57,8 +54,8 @@ fn replaces_a_number<'a, C: MutableZeroVecLike<'a, u16, OwnedType = u16>>(
     list: &mut C,
 ) {
     assert!(rt; 1 < list.zvl_len());
-    assert_eq!(rt; list.zvl_replace(alloc, 1, &9), Ok(3));
-    assert_eq!(rt; list.zvl_bytes(), [1, 0, 9, 0, 5, 0].as_slice());
+    assert!(rt; list.zvl_replace(alloc, 1, &9) == Ok(3));
+    assert!(rt; list.zvl_bytes() == [1, 0, 9, 0, 5, 0].as_slice());
     assert!(rt; list.zvl_is_owned());
     assert!(rt; list.zvl_as_borrowed_inner().is_none());
 }
@@ -71,22 +68,21 @@ fn changes_numbers<'a, C: MutableZeroVecLike<'a, u16, OwnedType = u16>>(
 ) {
     assert!(rt; !list.zvl_is_ascending());
     assert!(rt; 1 < list.zvl_len());
-    assert_eq!(rt; list.zvl_remove(alloc, 1), Ok(9));
-    assert_eq!(rt; list.zvl_push(alloc, &7), Ok(()));
-    assert_eq!(rt; list.zvl_insert(alloc, 0, &0), Ok(()));
-    assert_eq!(rt; list.zvl_spelling(), [0, 0, 1, 0, 5, 0, 7, 0].as_slice());
+    assert!(rt; list.zvl_remove(alloc, 1) == Ok(9));
+    assert!(rt; list.zvl_push(alloc, &7) == Ok(()));
+    assert!(rt; list.zvl_insert(alloc, 0, &0) == Ok(()));
+    assert!(rt; list.zvl_spelling() == [0, 0, 1, 0, 5, 0, 7, 0].as_slice());
 }
 
 // A view of the numbers 0, 1, 5 and 7.
 fn shows_numbers(rt: &impl Abort, view: KvSlice<'_, u16>) {
-    assert_eq!(rt; view.form(), Form::Fixed(2));
+    assert!(rt; view.form() == Form::Fixed(2));
     let Some(element) = view.get(2) else {
         panic!(rt; "there are four elements");
     };
-    assert_eq!(rt; element.value(), 5);
-    assert_eq!(rt;
-        <KvSlice<'_, u16> as ZeroVecSearch<u16>>::t_cmp_get(&4, &element),
-        Ordering::Less
+    assert!(rt; element.value() == 5);
+    assert!(rt;
+        <KvSlice<'_, u16> as ZeroVecSearch<u16>>::t_cmp_get(&4, &element) == Ordering::Less
     );
     assert!(rt; view.get(4).is_none());
 }
@@ -121,22 +117,16 @@ fn numbers_are_changed(rt: HostRuntime) -> Result<(), Fail> {
 
 // The empty list becomes "a", "b" and "ccc".
 fn adds_texts<'a, C: MutableZeroVecLike<'a, StrULE>>(rt: &impl Abort, alloc: Global, list: &mut C) {
-    assert_eq!(rt; list.zvl_push(alloc, &"b"), Ok(()));
-    assert_eq!(rt; list.zvl_insert(alloc, 0, &"a"), Ok(()));
-    assert_eq!(rt; list.zvl_push(alloc, &"ccc"), Ok(()));
-    assert_eq!(rt;
-        list.zvl_spelling(),
-        [3, 0, 1, 0, 2, 0, 97, 98, 99, 99, 99].as_slice()
-    );
+    assert!(rt; list.zvl_push(alloc, &"b") == Ok(()));
+    assert!(rt; list.zvl_insert(alloc, 0, &"a") == Ok(()));
+    assert!(rt; list.zvl_push(alloc, &"ccc") == Ok(()));
+    assert!(rt; list.zvl_spelling() == [3, 0, 1, 0, 2, 0, 97, 98, 99, 99, 99].as_slice());
 }
 
 // The texts "a", "b" and "ccc" are searched.
 fn finds_texts<C: ZeroVecSearch<StrULE>>(rt: &impl Abort, list: &C) {
-    assert_eq!(rt; list.zvl_binary_search(&"b"), Ok(1));
-    assert_eq!(rt;
-        list.zvl_binary_search_by(|element| element.len().cmp(&3)),
-        Ok(2)
-    );
+    assert!(rt; list.zvl_binary_search(&"b") == Ok(1));
+    assert!(rt; list.zvl_binary_search_by(|element| element.len().cmp(&3)) == Ok(2));
     assert!(rt; list.zvl_is_ascending());
 }
 
@@ -148,14 +138,11 @@ fn changes_texts<'a, C: MutableZeroVecLike<'a, StrULE, OwnedType = VarBox<StrULE
 ) -> Result<(), Fail> {
     assert!(rt; 1 < list.zvl_len());
     let old = list.zvl_replace(alloc, 1, &"bb")?;
-    assert_eq!(rt; old.as_bytes(), [98].as_slice());
+    assert!(rt; old.as_bytes() == [98].as_slice());
     assert!(rt; !list.zvl_is_empty());
     let old = list.zvl_remove(alloc, 0)?;
-    assert_eq!(rt; old.as_bytes(), [97].as_slice());
-    assert_eq!(rt;
-        list.zvl_bytes(),
-        [2, 0, 2, 0, 98, 98, 99, 99, 99].as_slice()
-    );
+    assert!(rt; old.as_bytes() == [97].as_slice());
+    assert!(rt; list.zvl_bytes() == [2, 0, 2, 0, 98, 98, 99, 99, 99].as_slice());
     Ok(())
 }
 
@@ -180,11 +167,11 @@ fn numbers_are_put_in_room(rt: HostRuntime) -> Result<(), Fail> {
     let mut list = <Of<'_, u16> as MutableZeroVecLike<'_, u16>>::zvl_with_capacity(alloc, 0)?;
     makes_room::<u16, Of<'_, u16>>(&rt, alloc, &mut list)?;
     list.zvl_reserve_bytes(alloc, 2)?;
-    assert_eq!(rt; list.zvl_put_reserved(0, false, &7), Ok(()));
+    assert!(rt; list.zvl_put_reserved(0, false, &7) == Ok(()));
     list.zvl_reserve_bytes(alloc, 2)?;
     assert!(rt; 0 < list.zvl_len());
-    assert_eq!(rt; list.zvl_put_reserved(0, true, &9), Ok(()));
-    assert_eq!(rt; list.zvl_bytes(), [9, 0].as_slice());
+    assert!(rt; list.zvl_put_reserved(0, true, &9) == Ok(()));
+    assert!(rt; list.zvl_bytes() == [9, 0].as_slice());
     Ok(())
 }
 
@@ -194,8 +181,8 @@ fn texts_are_put_in_room(rt: HostRuntime) -> Result<(), Fail> {
     let mut list = <Of<'_, StrULE> as MutableZeroVecLike<'_, StrULE>>::zvl_with_capacity(alloc, 0)?;
     makes_room::<StrULE, Of<'_, StrULE>>(&rt, alloc, &mut list)?;
     list.zvl_reserve_bytes(alloc, 4)?;
-    assert_eq!(rt; list.zvl_put_reserved(0, false, &"ab"), Ok(()));
-    assert_eq!(rt; list.zvl_bytes(), [1, 0, 97, 98].as_slice());
+    assert!(rt; list.zvl_put_reserved(0, false, &"ab") == Ok(()));
+    assert!(rt; list.zvl_bytes() == [1, 0, 97, 98].as_slice());
     list.zvl_make_owned(alloc)?;
     assert!(rt; 0 < list.zvl_len());
     list.zvl_discard(0);
@@ -206,7 +193,7 @@ fn texts_are_put_in_room(rt: HostRuntime) -> Result<(), Fail> {
 // Which lengths the container takes as one element more.
 fn takes<T: ZvKind, C: ZvContainer<T>>(rt: &impl Abort, list: &C, inserts: &[(usize, bool)]) {
     for (len, taken) in inserts {
-        assert_eq!(rt; list.zvl_takes_insert(*len), *taken, "{len}");
+        assert!(rt; list.zvl_takes_insert(*len) == *taken);
     }
 }
 
@@ -214,7 +201,7 @@ fn takes<T: ZvKind, C: ZvContainer<T>>(rt: &impl Abort, list: &C, inserts: &[(us
 fn gives_way<T: ZvKind, C: ZvContainer<T>>(rt: &impl Abort, list: &C, replaces: &[(usize, bool)]) {
     for (len, taken) in replaces {
         assert!(rt; !list.zvl_is_empty());
-        assert_eq!(rt; list.zvl_takes_replace(0, *len), *taken, "{len}");
+        assert!(rt; list.zvl_takes_replace(0, *len) == *taken);
     }
 }
 
@@ -290,6 +277,6 @@ fn an_emptied_list_borrows_no_bytes(rt: HostRuntime) -> Result<(), Fail> {
 fn data_are_pushed(rt: HostRuntime) {
     let bytes = [1, 2];
     let mut data = <Of<'_, SliceULE<u8>> as MutableZeroVecLike<'_, SliceULE<u8>>>::zvl_new();
-    assert_eq!(rt; data.zvl_push(rt.alloc(), &bytes.as_slice()), Ok(()));
-    assert_eq!(rt; data.zvl_as_borrowed().bytes(), [1, 0, 1, 2].as_slice());
+    assert!(rt; data.zvl_push(rt.alloc(), &bytes.as_slice()) == Ok(()));
+    assert!(rt; data.zvl_as_borrowed().bytes() == [1, 0, 1, 2].as_slice());
 }

@@ -51,7 +51,7 @@ fn comparisons<C: ZeroVecSearch<StrULE>>(list: &C, text: &str) -> usize {
 fn compares_up_to_three_times<C: ZeroVecSearch<StrULE>>(rt: &impl Abort, list: &C) {
     for text in ["a", "b", "c", "d", "e", "f", "g", "aa", "h"] {
         let count = comparisons(list, text);
-        assert!(rt; (1..=3).contains(&count), "{text} {count}");
+        assert!(rt; (1..=3).contains(&count));
     }
 }
 
@@ -93,8 +93,8 @@ fn a_look_up_halves_the_rows_and_one_row(rt: HostRuntime) -> Result<(), Fail> {
     let table = seven_languages(rt.alloc())?;
     for language in ["a", "b", "c", "d", "e", "f", "g"] {
         let (first, second) = look_up(&table, language, "Latn");
-        assert!(rt; (1..=3).contains(&first), "{language} {first}");
-        assert_eq!(rt; second, 1, "{language}");
+        assert!(rt; (1..=3).contains(&first));
+        assert!(rt; second == 1);
     }
     Ok(())
 }

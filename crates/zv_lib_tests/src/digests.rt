@@ -99,11 +99,7 @@ fn digests_agree_however_cut(rt: HostRuntime) {
     write_pattern(&mut bytes);
     for (seed, len, want) in VALUES {
         for piece in [1, 5, 31, 32, 33, 100] {
-            assert_eq!(rt;
-                digest(seed, &bytes[..len.min(100)], piece),
-                want,
-                "{seed} {len} {piece}"
-            );
+            assert!(rt; digest(seed, &bytes[..len.min(100)], piece) == want);
         }
     }
 }
@@ -111,9 +107,9 @@ fn digests_agree_however_cut(rt: HostRuntime) {
 #[test]
 fn more_is_written_after_a_digest(rt: HostRuntime) {
     let mut hasher = XxHash64::with_seed(0);
-    assert_eq!(rt; hasher.finish(), 0xEF46_DB37_51D8_E999);
+    assert!(rt; hasher.finish() == 0xEF46_DB37_51D8_E999);
     hasher.write(b"a");
-    assert_eq!(rt; hasher.finish(), 0xD24E_C4F1_A98C_6E5B);
+    assert!(rt; hasher.finish() == 0xD24E_C4F1_A98C_6E5B);
     hasher.write(b"bc");
-    assert_eq!(rt; hasher.finish(), 0x44BC_2CF5_AD77_0999);
+    assert!(rt; hasher.finish() == 0x44BC_2CF5_AD77_0999);
 }

@@ -20,9 +20,9 @@ fn has<T: AsULE + PartialEq>(
     owned: bool,
 ) {
     assert!(rt; list.same_slice(values));
-    assert_eq!(rt; list.const_len(), values.len());
-    assert_eq!(rt; list.as_bytes(), bytes);
-    assert_eq!(rt; list.is_owned(), owned);
+    assert!(rt; list.const_len() == values.len());
+    assert!(rt; list.as_bytes() == bytes);
+    assert!(rt; list.is_owned() == owned);
 }
 
 // The list is 1 and 2, and owns its bytes.
@@ -52,7 +52,7 @@ fn lists_are_copied(rt: HostRuntime) -> Result<(), Fail> {
     let list = ZeroVec::<'_, u16>::parse_bytes(&[1, 0, 2, 0])?;
     has(&rt, &list.clone(alloc)?, &[1, 2], &[1, 0, 2, 0], false);
     let values = list.to_vec(alloc)?;
-    assert_eq!(rt; values.as_slice(), [1, 2].as_slice());
+    assert!(rt; values.as_slice() == [1, 2].as_slice());
     is_one_two(&rt, &list.into_owned(alloc)?);
     Ok(())
 }
@@ -75,8 +75,8 @@ fn an_owned_list_has_room(rt: HostRuntime) -> Result<(), Fail> {
     let mut list = ZeroVec::<'_, u16>::with_capacity(rt.alloc(), 9)?;
     has(&rt, &list, &[], &[], true);
     assert!(rt; list.spare() >= 18);
-    assert_eq!(rt; list.take_first(), None);
-    assert_eq!(rt; list.take_last(), None);
+    assert!(rt; list.take_first() == None);
+    assert!(rt; list.take_last() == None);
     assert!(rt; list.is_owned());
     Ok(())
 }
@@ -87,15 +87,15 @@ fn changes_in_place(rt: &impl Abort, list: &mut ZeroVec<'_, u16>) {
     list.insert_owned(1, 7);
     assert!(rt; list.same_slice(&[1, 7, 2]));
     list.set_owned(0, 300);
-    assert_eq!(rt; list.remove_owned(1), 7);
-    assert_eq!(rt; list.as_bytes(), [44, 1, 2, 0].as_slice());
+    assert!(rt; list.remove_owned(1) == 7);
+    assert!(rt; list.as_bytes() == [44, 1, 2, 0].as_slice());
 }
 
 #[test]
 fn lists_change_without_memory(rt: HostRuntime) -> Result<(), Fail> {
     let alloc = rt.alloc();
     let mut list = ZeroVec::<'_, u16>::parse_bytes(&[1, 0, 2, 0])?;
-    assert_eq!(rt; list.spare(), 0);
+    assert!(rt; list.spare() == 0);
     list.make_owned(alloc)?;
     is_one_two(&rt, &list);
     list.reserve_bytes(alloc, 2)?;
@@ -137,7 +137,7 @@ fn a_closure_stops(rt: HostRuntime) -> Result<(), Fail> {
     let alloc = rt.alloc();
     let mut list = one_two(alloc)?;
     let stopped = list.try_for_each_mut(alloc, |n| one_more(n));
-    assert_eq!(rt; stopped, Err(EachError::Stopped(true)));
+    assert!(rt; stopped == Err(EachError::Stopped(true)));
     has(&rt, &list, &[2, 2], &[2, 0, 2, 0], true);
     Ok(())
 }
@@ -147,7 +147,7 @@ fn a_closure_goes_on_to_the_end(rt: HostRuntime) -> Result<(), Fail> {
     let alloc = rt.alloc();
     let mut list = ZeroVec::<'_, u16>::parse_bytes(&[3, 0, 4, 0])?;
     let done = list.try_for_each_mut(alloc, |n| one_more(n));
-    assert_eq!(rt; done, Ok(()));
+    assert!(rt; done == Ok(()));
     has(&rt, &list, &[4, 5], &[4, 0, 5, 0], true);
     Ok(())
 }
@@ -168,12 +168,12 @@ fn values_are_handed_over(rt: HostRuntime) -> Result<(), Fail> {
 // The values are those of the slice.
 fn is_view<T: AsULE + PartialEq>(rt: &impl Abort, list: ZeroSlice<'_, T>, values: &[T]) {
     assert!(rt; list.same_slice(values));
-    assert_eq!(rt; list.len(), values.len());
+    assert!(rt; list.len() == values.len());
 }
 
 // A list of four is taken apart.
 fn is_taken_apart<T: AsULE + PartialEq>(rt: &impl Abort, list: ZeroSlice<'_, T>, values: &[T]) {
-    assert_eq!(rt; values.len(), 4);
+    assert!(rt; values.len() == 4);
     match list.split_first() {
         Some((first, rest)) => {
             assert!(rt; first == values[0]);
@@ -192,9 +192,9 @@ fn is_taken_apart<T: AsULE + PartialEq>(rt: &impl Abort, list: ZeroSlice<'_, T>,
 fn a_list_is_taken_apart(rt: HostRuntime) -> Result<(), Fail> {
     let list = ZeroSlice::<'_, u16>::try_from_bytes(&FOUR_NUMBERS)?;
     is_taken_apart(&rt, list, &[211, 281, 421, 32973]);
-    assert_eq!(rt; list.get_as_array::<4>(), Some([211, 281, 421, 32973]));
-    assert_eq!(rt; list.get_as_array::<3>(), None);
-    assert_eq!(rt; (list.first(), list.last()), (Some(211), Some(32973)));
+    assert!(rt; list.get_as_array::<4>() == Some([211, 281, 421, 32973]));
+    assert!(rt; list.get_as_array::<3>() == None);
+    assert!(rt; (list.first(), list.last()) == (Some(211), Some(32973)));
     Ok(())
 }
 
@@ -202,8 +202,8 @@ fn a_list_is_taken_apart(rt: HostRuntime) -> Result<(), Fail> {
 fn an_empty_list_has_no_parts(rt: HostRuntime) {
     let list = ZeroSlice::<'static, u32>::new_empty();
     assert!(rt; list.split_first().is_none() && list.split_last().is_none());
-    assert_eq!(rt; list.get_as_array::<0>(), Some([]));
-    assert_eq!(rt; (list.first(), list.last()), (None, None));
+    assert!(rt; list.get_as_array::<0>() == Some([]));
+    assert!(rt; (list.first(), list.last()) == (None, None));
     is_view(&rt, list, &[]);
 }
 
@@ -211,20 +211,20 @@ fn an_empty_list_has_no_parts(rt: HostRuntime) {
 fn a_list_is_read_from_both_ends(rt: HostRuntime) -> Result<(), Fail> {
     let list = ZeroSlice::<'_, u16>::parse_bytes(&FOUR_NUMBERS)?;
     let mut numbers = list.iter();
-    assert_eq!(rt; numbers.next_back(), Some(32973));
-    assert_eq!(rt; numbers.next(), Some(211));
-    assert_eq!(rt; (numbers.len(), numbers.size_hint()), (2, (2, Some(2))));
-    assert_eq!(rt; numbers.next_back(), Some(421));
-    assert_eq!(rt; numbers.next_back(), Some(281));
-    assert_eq!(rt; (numbers.next_back(), numbers.next()), (None, None));
+    assert!(rt; numbers.next_back() == Some(32973));
+    assert!(rt; numbers.next() == Some(211));
+    assert!(rt; (numbers.len(), numbers.size_hint()) == (2, (2, Some(2))));
+    assert!(rt; numbers.next_back() == Some(421));
+    assert!(rt; numbers.next_back() == Some(281));
+    assert!(rt; (numbers.next_back(), numbers.next()) == (None, None));
     Ok(())
 }
 
 #[test]
 fn a_list_is_shortened(rt: HostRuntime) -> Result<(), Fail> {
     let mut list = ZeroVec::<'_, u16>::parse_bytes(&FOUR_NUMBERS)?;
-    assert_eq!(rt; list.take_first(), Some(211));
-    assert_eq!(rt; list.take_last(), Some(32973));
+    assert!(rt; list.take_first() == Some(211));
+    assert!(rt; list.take_last() == Some(32973));
     has(&rt, &list, &[281, 421], &[25, 1, 165, 1], false);
     let whole = list.truncated(9);
     has(&rt, &whole, &[281, 421], &[25, 1, 165, 1], false);
@@ -235,14 +235,11 @@ fn a_list_is_shortened(rt: HostRuntime) -> Result<(), Fail> {
 #[test]
 fn values_are_found(rt: HostRuntime) -> Result<(), Fail> {
     let list = ZeroSlice::<'_, u16>::parse_bytes(&FOUR_NUMBERS)?;
-    assert_eq!(rt; list.binary_search(&281), Ok(1));
-    assert_eq!(rt; list.binary_search(&300), Err(2));
-    assert_eq!(rt; list.as_zerovec().binary_search(&32973), Ok(3));
-    assert_eq!(rt; list.binary_search_by(|n| n.cmp(&421)), Ok(2));
-    assert_eq!(rt;
-        list.as_zerovec().binary_search_by(|n| n.cmp(&40000)),
-        Err(4)
-    );
+    assert!(rt; list.binary_search(&281) == Ok(1));
+    assert!(rt; list.binary_search(&300) == Err(2));
+    assert!(rt; list.as_zerovec().binary_search(&32973) == Ok(3));
+    assert!(rt; list.binary_search_by(|n| n.cmp(&421)) == Ok(2));
+    assert!(rt; list.as_zerovec().binary_search_by(|n| n.cmp(&40000)) == Err(4));
     Ok(())
 }
 
@@ -253,10 +250,10 @@ fn compares<T: AsULE + Ord>(
     right: ZeroSlice<'_, T>,
     order: Ordering,
 ) {
-    assert_eq!(rt; left.order(right), order);
-    assert_eq!(rt; left.as_zerovec().order(right), order);
-    assert_eq!(rt; left.same(right), order.is_eq());
-    assert_eq!(rt; left.as_view().order(right.as_view()), order);
+    assert!(rt; left.order(right) == order);
+    assert!(rt; left.as_zerovec().order(right) == order);
+    assert!(rt; left.same(right) == order.is_eq());
+    assert!(rt; left.as_view().order(right.as_view()) == order);
 }
 
 #[test]
@@ -276,7 +273,7 @@ fn lists_become_others(rt: HostRuntime) -> Result<(), Fail> {
     is_view(&rt, list.cast::<i32>(), &[-1]);
     is_view(&rt, list.try_as_converted::<u8>()?, &[255, 255, 255, 255]);
     let error = list.try_as_converted::<char>();
-    assert_eq!(rt; error.map(|_| ()), Err(UleError::length(TyName::Char, 4)));
+    assert!(rt; error.map(|_| ()) == Err(UleError::length(TyName::Char, 4)));
     has(
         &rt,
         &list.as_zerovec().cast::<i32>(),
@@ -293,10 +290,7 @@ fn bytes_become_lists(rt: HostRuntime) -> Result<(), Fail> {
     has(&rt, &bytes, &[1, 0, 2, 0], &[1, 0, 2, 0], true);
     is_one_two(&rt, &bytes.try_into_parsed()?);
     let three = ZeroVec::<'_, u8>::parse_bytes(&[1, 0, 2])?.try_into_parsed::<u16>();
-    assert_eq!(rt;
-        three.map(|_| ()),
-        Err(UleError::length(TyName::RawBytes2, 3))
-    );
+    assert!(rt; three.map(|_| ()) == Err(UleError::length(TyName::RawBytes2, 3)));
     Ok(())
 }
 
@@ -311,7 +305,7 @@ fn lists_are_checked_anew(rt: HostRuntime) -> Result<(), Fail> {
         false,
     );
     let bad = ZeroVec::<'_, u8>::parse_bytes(&[1, 2])?.try_into_converted::<bool>();
-    assert_eq!(rt; bad.map(|_| ()), Err(UleError::parse(TyName::Bool)));
+    assert!(rt; bad.map(|_| ()) == Err(UleError::parse(TyName::Bool)));
     Ok(())
 }
 
@@ -324,7 +318,7 @@ fn spells<E: EncodeAsVarULE<ZeroSliceULE<u16>>>(
 ) -> Result<(), Fail> {
     assert!(rt; value.encode_var_ule_fits());
     let element = encode_varule_to_box::<E, ZeroSliceULE<u16>>(alloc, value)?;
-    assert_eq!(rt; element.as_bytes(), bytes);
+    assert!(rt; element.as_bytes() == bytes);
     Ok(())
 }
 
@@ -339,9 +333,6 @@ fn lists_are_elements(rt: HostRuntime) -> Result<(), Fail> {
     spells(&rt, alloc, &list, &bytes)?;
     is_view(&rt, ZeroSliceULE::as_zeroslice(list.as_view()), &[1, 2]);
     let cut = VarRef::<'_, ZeroSliceULE<u16>>::new(&[1, 0, 2]);
-    assert_eq!(rt;
-        cut.map(|_| ()),
-        Err(UleError::length(TyName::RawBytes2, 3))
-    );
+    assert!(rt; cut.map(|_| ()) == Err(UleError::length(TyName::RawBytes2, 3)));
     Ok(())
 }

@@ -1,4 +1,4 @@
-//! Tests of the crates of lists, vectors, containers, maps and digests at concrete kinds.
+//! Tests of the crates of lists, vectors, containers, maps, digests and hashes at concrete kinds.
 #![tactic(auto)]
 
 #[cfg(test)]
@@ -10,9 +10,15 @@ mod digests;
 #[cfg(test)]
 mod fixed;
 #[cfg(test)]
+mod formats;
+#[cfg(test)]
+mod hashes;
+#[cfg(test)]
 mod lists;
 #[cfg(test)]
 mod maps;
+#[cfg(test)]
+mod nested;
 #[cfg(test)]
 mod splices;
 #[cfg(test)]

@@ -20,11 +20,11 @@ fn has_texts<F: VarZeroVecFormat>(
     list: VarZeroSlice<'_, StrULE, F>,
     texts: &[&str],
 ) {
-    assert_eq!(rt; list.iter().size_hint(), (texts.len(), Some(texts.len())));
+    assert!(rt; list.iter().size_hint() == (texts.len(), Some(texts.len())));
     for (element, text) in list.iter().zip(texts.iter()) {
-        assert_eq!(rt; element.as_str(), *text);
+        assert!(rt; element.as_str() == *text);
     }
-    assert_eq!(rt; list.len(), texts.len());
+    assert!(rt; list.len() == texts.len());
     assert!(rt; list.get(texts.len()).is_none());
 }
 
@@ -36,7 +36,7 @@ fn finds_texts<F: VarZeroVecFormat>(
 ) {
     for (text, place) in searches {
         let text = *text;
-        assert_eq!(rt; list.binary_search(&text), *place, "{text}");
+        assert!(rt; list.binary_search(&text) == *place);
     }
 }
 
@@ -48,11 +48,7 @@ fn finds_in_ranges<F: VarZeroVecFormat>(
     searches: &[(usize, usize, Option<Result<usize, usize>>)],
 ) {
     for (start, end, place) in searches {
-        assert_eq!(rt;
-            list.binary_search_in_range(&text, *start..*end),
-            *place,
-            "{start} {end}"
-        );
+        assert!(rt; list.binary_search_in_range(&text, *start..*end) == *place);
     }
 }
 
@@ -78,12 +74,12 @@ fn fault_of<F: VarZeroVecFormat>(bytes: &[u8]) -> Option<VarZeroVecFormatError> 
 #[test]
 fn texts_are_checked_at_their_ends(rt: HostRuntime) {
     // "a" and "bcd".
-    assert_eq!(rt; fault_of::<Index8>(&[2, 1, 97, 98, 99, 100]), None);
-    assert_eq!(rt; fault_of::<Index16>(&FOUR_TEXTS), None);
+    assert!(rt; fault_of::<Index8>(&[2, 1, 97, 98, 99, 100]) == None);
+    assert!(rt; fault_of::<Index16>(&FOUR_TEXTS) == None);
 
     // The first element would end within "ω".
     let error = VarZeroVecFormatError::Values(UleError::parse(TyName::Str));
-    assert_eq!(rt; fault_of::<Index8>(&[2, 1, 207, 137]), Some(error));
+    assert!(rt; fault_of::<Index8>(&[2, 1, 207, 137]) == Some(error));
 }
 
 #[test]
@@ -98,7 +94,7 @@ fn lists_nest(rt: HostRuntime) {
         panic!(rt; "there are two lists");
     };
     let inner = VarZeroSliceULE::<StrULE, Index16>::as_varzeroslice(element);
-    assert_eq!(rt; inner.len(), 1);
+    assert!(rt; inner.len() == 1);
 }
 
 // An error is printed so.
@@ -109,7 +105,7 @@ fn prints(
     text: &str,
 ) -> Result<(), Fail> {
     let printed = format!(in alloc; "{error}")?;
-    assert_eq!(rt; printed.as_str(), text);
+    assert!(rt; printed.as_str() == text);
     Ok(())
 }
 
@@ -135,8 +131,8 @@ fn a_part_is_taken(rt: HostRuntime) {
     let Some((part, rest)) = take_part(&bytes) else {
         panic!(rt; "the part is whole");
     };
-    assert_eq!(rt; part, &[98, 99][..]);
-    assert_eq!(rt; rest, &[97][..]);
-    assert_eq!(rt; &part_len(part)[..], &bytes[..8]);
+    assert!(rt; part == &[98, 99][..]);
+    assert!(rt; rest == &[97][..]);
+    assert!(rt; &part_len(part)[..] == &bytes[..8]);
     assert!(rt; take_part(&bytes[..9]).is_none());
 }

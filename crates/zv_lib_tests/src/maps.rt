@@ -79,7 +79,7 @@ fn pairs_of<'l, C0: ZvContainer<u16>, C1: ZvContainer<StrULE>, D: ZvContainer<St
     key0: u16,
 ) -> Option<Iter1<'l, StrULE, StrULE>> {
     let row = map.get0(&key0)?;
-    assert_eq!(rt; row.key0().value(), key0);
+    assert!(rt; row.key0().value() == key0);
     Some(row.iter1())
 }
 
@@ -88,10 +88,10 @@ fn are_pairs(rt: &impl Abort, found: Option<Iter1<'_, StrULE, StrULE>>, pairs: &
     let Some(found) = found else {
         panic!(rt; "the row is there");
     };
-    assert_eq!(rt; found.size_hint(), (pairs.len(), Some(pairs.len())));
+    assert!(rt; found.size_hint() == (pairs.len(), Some(pairs.len())));
     for ((key, value), (wanted_key, wanted_value)) in found.zip(pairs.iter()) {
-        assert_eq!(rt; key.as_str(), *wanted_key);
-        assert_eq!(rt; value.as_str(), *wanted_value);
+        assert!(rt; key.as_str() == *wanted_key);
+        assert!(rt; value.as_str() == *wanted_value);
     }
 }
 
@@ -112,8 +112,8 @@ fn has_three_rows<C0: ZvContainer<u16>, C1: ZvContainer<StrULE>, D: ZvContainer<
         &[("ddd", "DD2"), ("eee", "EEE"), ("www", "WWW")],
     );
     assert!(rt; pairs_of(rt, map, 5).is_none());
-    assert_eq!(rt; map.rows(), 3);
-    assert_eq!(rt; map.len(), 7);
+    assert!(rt; map.rows() == 3);
+    assert!(rt; map.len() == 7);
 }
 
 const FIRST: [Change<'static>; 7] = [
@@ -141,10 +141,7 @@ const THEN: [Change<'static>; 8] = [
 fn rows_come(rt: HostRuntime) -> Result<(), Fail> {
     let mut map = Texts::new();
     make_changes(&rt, &mut map, rt.alloc(), &FIRST)?;
-    assert_eq!(rt;
-        map.parts().joiner,
-        [2, 0, 0, 0, 3, 0, 0, 0, 6, 0, 0, 0, 7, 0, 0, 0].as_slice()
-    );
+    assert!(rt; map.parts().joiner == [2, 0, 0, 0, 3, 0, 0, 0, 6, 0, 0, 0, 7, 0, 0, 0].as_slice());
     Ok(())
 }
 
@@ -154,11 +151,8 @@ fn rows_come_and_go(rt: HostRuntime) -> Result<(), Fail> {
     make_changes(&rt, &mut map, rt.alloc(), &FIRST)?;
     make_changes(&rt, &mut map, rt.alloc(), &THEN)?;
     let parts = map.parts();
-    assert_eq!(rt; parts.keys0, [3, 0, 6, 0, 7, 0].as_slice());
-    assert_eq!(rt;
-        parts.joiner,
-        [1, 0, 0, 0, 4, 0, 0, 0, 7, 0, 0, 0].as_slice()
-    );
+    assert!(rt; parts.keys0 == [3, 0, 6, 0, 7, 0].as_slice());
+    assert!(rt; parts.joiner == [1, 0, 0, 0, 4, 0, 0, 0, 7, 0, 0, 0].as_slice());
     has_three_rows(&rt, &map);
     map.clear();
     assert!(rt; map.is_empty());
@@ -196,7 +190,7 @@ fn asks_the_row<C0: ZvContainer<StrULE>, C1: ZvContainer<u32>, D: ZvContainer<Sl
     let Some(value) = row.get1(&300) else {
         panic!(rt; "the pair is there");
     };
-    assert_eq!(rt; value.as_bytes(), [1, 2].as_slice());
+    assert!(rt; value.as_bytes() == [1, 2].as_slice());
     assert!(rt; row.get1(&3).is_none());
 }
 
@@ -207,10 +201,7 @@ fn a_row_is_asked_by_its_second_keys(rt: HostRuntime) -> Result<(), Fail> {
     put_data(&mut map, rt.alloc(), "k", 2, &[3])?;
     asks_the_row(&rt, &map);
     assert!(rt; map.get_2d(&"j", &300).is_none());
-    assert_eq!(rt;
-        map.canon_parts().keys1,
-        [2, 0, 0, 0, 44, 1, 0, 0].as_slice()
-    );
+    assert!(rt; map.canon_parts().keys1 == [2, 0, 0, 0, 44, 1, 0, 0].as_slice());
     Ok(())
 }
 
@@ -240,8 +231,8 @@ fn put_in_room(
     map: &mut ZeroMap2d<'_, u16, u16, StrULE>,
 ) -> Result<(), Fail> {
     map.reserve_for(alloc, 2, 2, 5, 1)?;
-    assert_eq!(rt; map.put_reserved(&1, &2, &"three"), Ok(false));
-    assert_eq!(rt; map.canon_parts().values, b"\x01\x00three".as_slice());
+    assert!(rt; map.put_reserved(&1, &2, &"three") == Ok(false));
+    assert!(rt; map.canon_parts().values == b"\x01\x00three".as_slice());
     Ok(())
 }
 
@@ -274,9 +265,6 @@ fn pairs_come_and_go_in_room(rt: HostRuntime) -> Result<(), Fail> {
 #[test]
 fn too_many_puts_have_no_room(rt: HostRuntime) -> Result<(), Fail> {
     let mut map = Texts::new();
-    assert_eq!(rt;
-        map.reserve_for(rt.alloc(), 0, 0, 0, 4_294_967_296),
-        Err(Map2dError::TooMany)
-    );
+    assert!(rt; map.reserve_for(rt.alloc(), 0, 0, 0, 4_294_967_296) == Err(Map2dError::TooMany));
     Ok(())
 }

@@ -142,11 +142,11 @@ fn changed<F: VarZeroVecFormat>(
 fn leaves_texts<F: VarZeroVecFormat>(rt: &impl Abort, alloc: Global) -> Result<(), Fail> {
     for row in &ROWS {
         let list = changed::<F>(rt, alloc, row)?;
-        assert_eq!(rt; list.len(), row.after.len());
+        assert!(rt; list.len() == row.after.len());
         for (element, text) in list.iter().zip(row.after.iter()) {
-            assert_eq!(rt; element.as_str(), *text);
+            assert!(rt; element.as_str() == *text);
         }
-        assert_eq!(rt; list.as_bytes().is_empty(), row.after.is_empty());
+        assert!(rt; list.as_bytes().is_empty() == row.after.is_empty());
     }
     Ok(())
 }
@@ -181,7 +181,7 @@ fn leaves_bytes<F: VarZeroVecFormat>(
     list.reserve_bytes(9)?;
     for (edit, bytes) in EDITS.iter().zip(after.iter()) {
         make(rt, &mut list, *edit)?;
-        assert_eq!(rt; list.as_bytes(), *bytes);
+        assert!(rt; list.as_bytes() == *bytes);
     }
     Ok(())
 }
@@ -231,7 +231,7 @@ fn bytes_are_changed_in_place(rt: HostRuntime) -> Result<(), Fail> {
 fn bytes_after_a_count_of_zero_go(rt: HostRuntime) -> Result<(), Fail> {
     let mut list = VarZeroVec16::<'_, StrULE>::parse_bytes(&[0, 0, 9, 9])?;
     make(&rt, list.make_mut(rt.alloc())?, Edit::Insert(0, "ab"))?;
-    assert_eq!(rt; list.as_bytes(), [1, 0, 97, 98].as_slice());
+    assert!(rt; list.as_bytes() == [1, 0, 97, 98].as_slice());
     Ok(())
 }
 
@@ -249,7 +249,7 @@ fn a_text_that_is_too_long_stays(rt: HostRuntime) -> Result<(), Fail> {
     let bytes = before_text(alloc, &[2, 0, 1, 0, 97])?;
     let mut list = VarZeroVec16::<'_, StrULE>::parse_bytes(&bytes)?.into_owned(alloc)?;
     make(&rt, list.make_mut(alloc)?, Edit::Remove(0))?;
-    assert_eq!(rt; list.as_bytes(), before_text(alloc, &[1, 0])?.as_slice());
+    assert!(rt; list.as_bytes() == before_text(alloc, &[1, 0])?.as_slice());
     Ok(())
 }
 
@@ -306,9 +306,9 @@ fn a_vector_changes_in_its_room(rt: HostRuntime) -> Result<(), Fail> {
     let mut list = VarZeroVec16::<'_, StrULE>::with_capacity(rt.alloc(), 2)?;
     insert_in_room(&rt, &mut list, "a");
     insert_in_room(&rt, &mut list, "b");
-    assert_eq!(rt; list.as_bytes(), [2, 0, 1, 0, 98, 97].as_slice());
+    assert!(rt; list.as_bytes() == [2, 0, 1, 0, 98, 97].as_slice());
     remove_first(&rt, &mut list);
-    assert_eq!(rt; list.as_bytes(), [1, 0, 97].as_slice());
+    assert!(rt; list.as_bytes() == [1, 0, 97].as_slice());
     Ok(())
 }
 
@@ -320,10 +320,7 @@ fn a_borrowed_vector_gets_room(rt: HostRuntime) -> Result<(), Fail> {
     list.reserve(alloc, 1)?;
     list.reserve_bytes(alloc, 7)?;
     replace_in_room(&rt, &mut list, "seven");
-    assert_eq!(rt;
-        list.into_bytes(alloc)?.as_slice(),
-        [1, 0, 115, 101, 118, 101, 110].as_slice()
-    );
+    assert!(rt; list.into_bytes(alloc)?.as_slice() == [1, 0, 115, 101, 118, 101, 110].as_slice());
     Ok(())
 }
 
@@ -334,11 +331,11 @@ fn is_made_of_values<F: VarZeroVecFormat>(
     bytes: &[u8],
 ) -> Result<(), Fail> {
     let list = VarZeroVecOwned::<StrULE, F>::try_from_elements(alloc, &["a"])?;
-    assert_eq!(rt; list.as_bytes(), bytes);
+    assert!(rt; list.as_bytes() == bytes);
     assert!(rt; !list.as_varzerovec().is_owned());
     let vector = VarZeroVec::<'_, StrULE, F>::try_from_elements(alloc, &["a"])?;
     assert!(rt; vector.is_owned());
-    assert_eq!(rt; vector.as_bytes(), bytes);
+    assert!(rt; vector.as_bytes() == bytes);
     Ok(())
 }
 
@@ -357,18 +354,18 @@ fn values_become_a_list(rt: HostRuntime) -> Result<(), Fail> {
 #[test]
 fn values_become_bytes(rt: HostRuntime) -> Result<(), Fail> {
     let bytes = get_serializable_bytes_non_empty::<StrULE, &str, Index16>(rt.alloc(), &["a"])?;
-    assert_eq!(rt; bytes.as_deref(), Some([1, 0, 97].as_slice()));
+    assert!(rt; bytes.as_deref() == Some([1, 0, 97].as_slice()));
     let none: [&str; 0] = [];
     let len = compute_serializable_len_without_length::<StrULE, &str, Index16>(&none);
-    assert_eq!(rt; len, Some(0));
+    assert!(rt; len == Some(0));
     Ok(())
 }
 
 #[test]
 fn a_list_without_its_count_is_read(rt: HostRuntime) -> Result<(), Fail> {
     let list = VarZeroLengthlessSlice::<'_, StrULE, Index16>::parse_bytes(2, &[1, 0, 97, 98])?;
-    assert_eq!(rt; list.get(1).map(|text| text.as_str()), Some("b"));
-    assert_eq!(rt; list.as_bytes(), [1, 0, 97, 98].as_slice());
+    assert!(rt; list.get(1).map(|text| text.as_str()) == Some("b"));
+    assert!(rt; list.as_bytes() == [1, 0, 97, 98].as_slice());
     assert!(rt;
         VarZeroLengthlessSlice::<'_, StrULE, Index16>::parse_bytes(3, &[1, 0, 97, 98]).is_err()
     );

@@ -25,29 +25,29 @@ fn has_texts<F: VarZeroVecFormat>(
     list: &VarZeroVecOwned<StrULE, F>,
     items: &[&str],
 ) {
-    assert_eq!(rt; list.len(), items.len());
+    assert!(rt; list.len() == items.len());
     for (element, item) in list.iter().zip(items.iter()) {
-        assert_eq!(rt; element.as_str(), *item);
+        assert!(rt; element.as_str() == *item);
     }
-    assert_eq!(rt; list.as_bytes().is_empty(), items.is_empty());
+    assert!(rt; list.as_bytes().is_empty() == items.is_empty());
 }
 
 #[test]
 fn a_text_is_inserted(rt: HostRuntime) -> Result<(), Fail> {
     let mut list = texts::<Index16>(rt.alloc(), &["a"])?;
-    assert_eq!(rt; list.as_bytes(), [1, 0, 97].as_slice());
+    assert!(rt; list.as_bytes() == [1, 0, 97].as_slice());
     list.insert(0, &"bc")?;
-    assert_eq!(rt; list.as_bytes(), [2, 0, 2, 0, 98, 99, 97].as_slice());
+    assert!(rt; list.as_bytes() == [2, 0, 2, 0, 98, 99, 97].as_slice());
     Ok(())
 }
 
 // An owned list of "a", "b" and "cc" is searched and read.
 fn is_searched<F: VarZeroVecFormat>(rt: &impl Abort, list: &VarZeroVecOwned<StrULE, F>) {
     for (text, place) in [("a", Ok(0)), ("cc", Ok(2)), ("bb", Err(2))] {
-        assert_eq!(rt; list.binary_search(&text), place);
+        assert!(rt; list.binary_search(&text) == place);
     }
-    assert_eq!(rt; list.binary_search_in_range(&"b", 1..3), Some(Ok(0)));
-    assert_eq!(rt; list.binary_search_in_range(&"b", 1..4), None);
+    assert!(rt; list.binary_search_in_range(&"b", 1..3) == Some(Ok(0)));
+    assert!(rt; list.binary_search_in_range(&"b", 1..4) == None);
 }
 
 #[test]
@@ -66,10 +66,10 @@ fn a_borrowed_list_is_owned_once_it_changes(rt: HostRuntime) -> Result<(), Fail>
     assert!(rt; !list.is_owned());
     assert!(rt; list.as_maybe_borrowed().is_some());
     list.insert_arg(alloc, 0, &"w")?;
-    assert_eq!(rt; list.as_bytes(), [1, 0, 119].as_slice());
+    assert!(rt; list.as_bytes() == [1, 0, 119].as_slice());
     assert!(rt; list.is_owned());
     list.make_mut(alloc)?.push(&"v")?;
-    assert_eq!(rt; list.as_bytes(), [2, 0, 1, 0, 119, 118].as_slice());
+    assert!(rt; list.as_bytes() == [2, 0, 1, 0, 119, 118].as_slice());
     Ok(())
 }
 
@@ -81,8 +81,8 @@ fn is_cloned<F: VarZeroVecFormat>(
     bytes: &[u8],
 ) -> Result<(), Fail> {
     let copy = list.clone(alloc)?;
-    assert_eq!(rt; copy.as_bytes(), bytes);
-    assert_eq!(rt; copy.is_owned(), list.is_owned());
+    assert!(rt; copy.as_bytes() == bytes);
+    assert!(rt; copy.is_owned() == list.is_owned());
     Ok(())
 }
 
@@ -105,7 +105,7 @@ fn a_borrowed_list_is_made_owned(rt: HostRuntime) -> Result<(), Fail> {
     let mut list = VarZeroVec16::<'_, StrULE>::parse_bytes(&[1, 0, 97])?;
     is_cloned(&rt, alloc, &list, &[1, 0, 97])?;
     is_made_owned(&rt, alloc, &mut list, "b")?;
-    assert_eq!(rt; list.as_bytes(), [2, 0, 1, 0, 97, 98].as_slice());
+    assert!(rt; list.as_bytes() == [2, 0, 1, 0, 97, 98].as_slice());
     is_cloned(&rt, alloc, &list, &[2, 0, 1, 0, 97, 98])?;
     list.clear();
     assert!(rt; list.is_owned());
@@ -132,11 +132,8 @@ fn an_owned_list_becomes_a_vector(rt: HostRuntime) -> Result<(), Fail> {
     let owned = texts::<Index32>(rt.alloc(), &["a"])?;
     let mut list = VarZeroVec32::from(owned);
     assert!(rt; push_owned(&mut list, "b")?);
-    assert_eq!(rt;
-        list.as_bytes(),
-        [2, 0, 0, 0, 1, 0, 0, 0, 97, 98].as_slice()
-    );
-    assert_eq!(rt; list.as_components().len(), 2);
+    assert!(rt; list.as_bytes() == [2, 0, 0, 0, 1, 0, 0, 0, 97, 98].as_slice());
+    assert!(rt; list.as_components().len() == 2);
     Ok(())
 }
 
@@ -145,7 +142,7 @@ fn a_view_becomes_a_vector(rt: HostRuntime) -> Result<(), Fail> {
     let view = VarZeroSlice::<'_, StrULE, Index8>::parse_bytes(&[2, 1, 97, 98])?;
     let mut list = VarZeroVec::from(view);
     assert!(rt; !push_owned(&mut list, "c")?);
-    assert_eq!(rt; list.as_bytes(), [2, 1, 97, 98].as_slice());
+    assert!(rt; list.as_bytes() == [2, 1, 97, 98].as_slice());
     Ok(())
 }
 
@@ -163,9 +160,9 @@ fn a_list_with_fields_of_one_byte_is_full(rt: HostRuntime) -> Result<(), Fail> {
     let alloc = rt.alloc();
     let text = letters(alloc, 254)?;
     let mut list = texts::<Index8>(alloc, &[text.as_str()])?;
-    assert_eq!(rt; list.push(&""), Err(VecError::TooLarge));
+    assert!(rt; list.push(&"") == Err(VecError::TooLarge));
     list.replace(0, &"b")?;
-    assert_eq!(rt; list.into_bytes().as_slice(), [1, 98].as_slice());
+    assert!(rt; list.into_bytes().as_slice() == [1, 98].as_slice());
     Ok(())
 }
 
@@ -176,12 +173,12 @@ fn takes<F: VarZeroVecFormat>(
     inserts: &[(usize, bool)],
     replaces: &[(usize, bool)],
 ) {
-    assert_eq!(rt; list.len(), 1);
+    assert!(rt; list.len() == 1);
     for (len, taken) in inserts {
-        assert_eq!(rt; list.takes_insert(*len), *taken, "{len}");
+        assert!(rt; list.takes_insert(*len) == *taken);
     }
     for (len, taken) in replaces {
-        assert_eq!(rt; list.takes_replace(0, *len), *taken, "{len}");
+        assert!(rt; list.takes_replace(0, *len) == *taken);
     }
 }
 
@@ -192,12 +189,12 @@ fn vector_takes<F: VarZeroVecFormat>(
     inserts: &[(usize, bool)],
     replaces: &[(usize, bool)],
 ) {
-    assert_eq!(rt; list.len(), 1);
+    assert!(rt; list.len() == 1);
     for (len, taken) in inserts {
-        assert_eq!(rt; list.takes_insert(*len), *taken, "{len}");
+        assert!(rt; list.takes_insert(*len) == *taken);
     }
     for (len, taken) in replaces {
-        assert_eq!(rt; list.takes_replace(0, *len), *taken, "{len}");
+        assert!(rt; list.takes_replace(0, *len) == *taken);
     }
 }
 
@@ -247,15 +244,12 @@ fn numbers_are_changed(rt: HostRuntime) -> Result<(), Fail> {
     list.insert(alloc, 1, 7)?;
     list.push(alloc, 9)?;
     list.set(alloc, 0, 300)?;
-    assert_eq!(rt; list.remove(alloc, 2)?, 2);
+    assert!(rt; list.remove(alloc, 2)? == 2);
     assert!(rt; list.is_owned());
-    assert_eq!(rt;
-        list.as_bytes(),
-        [44, 1, 0, 0, 7, 0, 0, 0, 9, 0, 0, 0].as_slice()
-    );
+    assert!(rt; list.as_bytes() == [44, 1, 0, 0, 7, 0, 0, 0, 9, 0, 0, 0].as_slice());
     let copy = list.clone(alloc)?;
     list.clear();
     assert!(rt; !list.is_owned());
-    assert_eq!(rt; copy.last(), Some(9));
+    assert!(rt; copy.last() == Some(9));
     Ok(())
 }

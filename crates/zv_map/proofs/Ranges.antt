@@ -15,7 +15,8 @@ pub element_next : (xs : List Bytes) (i e : ℕ) (x : Bytes) → i < e → e ≤
 element_next xs i e x h a f = range_next xs i e [] h a ∙ ap (λ (z : Bytes). z ∷ slice_range xs (i + 1) e) (sym f)
 
 -- the others, and the last
-pub element_last : (xs : List Bytes) (i l e : ℕ) (x : Bytes) → l + 1 ≡ e → i ≤ l → e ≤ length xs → x ≡ nth xs l → slice_range xs i e ≡ slice_range xs i l ++ x ∷ []
+pub element_last : (xs : List Bytes) (i l e : ℕ) (x : Bytes) → l + 1 ≡ e → i ≤ l → e ≤ length xs → x ≡ nth xs l
+    → slice_range xs i e ≡ slice_range xs i l ++ x ∷ []
 element_last xs i l e x s h a f =
     ap (slice_range xs i) (sym s) ∙ (between_more xs i l [] h (omega (arith, s, a)) ∙ ap (λ (z : Bytes). slice_range xs i l ++ z ∷ []) (sym f))
 

@@ -49,9 +49,11 @@ impl<K: AsULE, V: AsULE> Iterator for ZeroMapCopied<'_, K, V> {
     #[inline]
     fn size_hint(&self) -> (usize, Option<usize>)
         ensures lower { IsWithinCount result.0 (item_count
-            (copied_left (λ b. K.loaded (K.ULE.value b)) (λ b. V.loaded (V.ULE.value b))) self.now) }
+            (copied_left (λ b. K.loaded (K.ULE.value b))
+            (λ b. V.loaded (V.ULE.value b))) self.now) }
         ensures upper { IfSome result.1 (UpTo (item_count
-            (copied_left (λ b. K.loaded (K.ULE.value b)) (λ b. V.loaded (V.ULE.value b))) self.now)) }
+            (copied_left (λ b. K.loaded (K.ULE.value b))
+            (λ b. V.loaded (V.ULE.value b))) self.now)) }
         ensures exact { result
             ≡ (length (left_of self.now.pairs), Some (length (left_of self.now.pairs))) }
     {

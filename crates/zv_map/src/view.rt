@@ -1,5 +1,6 @@
 // Views of containers.
-ghost use Rattle.std.specs.Prelude.{◌≡◌, ⊤, ℕ, ◌%◌, ◌==◌, ◌<◌, ◌≤◌, ◌↔◌, List, [], length, Option, None};
+ghost use Rattle.std.specs.Prelude.{◌≡◌, ⊤, ℕ, ◌%◌, ◌==◌, ◌<◌, ◌≤◌, ◌↔◌, List, [], length, Option};
+ghost use Rattle.std.specs.Prelude.{None};
 ghost use Rattle.std.specs.Prelude.{IsTrue};
 ghost use Rattle.std.specs.List.{slice_get};
 ghost use Rattle.std.specs.Option.{option_map};

@@ -27,8 +27,8 @@ pub record IsOwned (m : Map2d) : Type 0 where
   pub keys1 : m.keys1.owned ≡ true
   pub values : m.values.owned ≡ true
 
--- so many puts, whose elements have these lengths in sum, spend no more of each vector of a map than
--- their elements take; there are at most so many pairs more
+-- so many puts, whose elements have these lengths in sum, spend no more of each vector of a map
+-- than their elements take; there are at most so many pairs more
 pub record SpendsFor (w0 w1 w2 bytes0 bytes1 bytes2 puts : ℕ) (before after : Map2d) : Type 0 where
   pub keys0 : Spends (bytes0 + w0 * puts) before.keys0 after.keys0
   pub joiner : Spends (4 * puts) before.joiner after.joiner

@@ -5,8 +5,8 @@ use std::marker::PhantomData;
 use zv_ule::{EncodeAsVarULE, VarULE, VarZeroVecFormat, ZvArg};
 use zv_var::slice::VarZeroSlice;
 
-/// A value that has a spelling, with the spelling's length: an argument of the kind, whose bytes are
-/// the spelling.
+/// A value that has a spelling, with the spelling's length: an argument of the kind, whose bytes
+/// are the spelling.
 #[derive(Drop)]
 pub struct Encoded<'e, T: VarULE, A: EncodeAsVarULE<T>> {
     value: &'e A,

@@ -1,16 +1,15 @@
 // A list in a format that owns its bytes.
-ghost use Rattle.std.specs.Prelude.{◌≡◌, ℕ, ◌==◌, ◌∷◌, ◌++◌, ◌&&◌, ◌+◌, ◌^◌, ◌<◌, ◌≤◌, ◌↔◌};
+ghost use Rattle.std.specs.Prelude.{◌≡◌, ℕ, ◌==◌, ◌∷◌, ◌++◌, ◌&&◌, ◌+◌, ◌^◌, ◌<◌, ◌≤◌};
 ghost use Rattle.std.specs.Prelude.{[], length, set, slice_index_or, Option, None};
-ghost use Rattle.std.specs.Prelude.{IsTrue, IfOk, IsOk, OnOk, OnErr, IfSome, IsNone, List, Some};
+ghost use Rattle.std.specs.Prelude.{IsTrue, IfOk, IsOk, OnOk, OnErr, IfSome, List, Some};
 ghost use Rattle.std.specs.Prelude.{◌-◌, ◌*◌, ◌||◌, false, is_some, map, true};
 ghost use Rattle.std.specs.List.{insert, remove, slice_get, splice};
 ghost use Rattle.std.specs.Option.{option_map};
-ghost use Rattle.zv_ule.specs.Search.{Found, FoundIn, IsOutside, compared};
 ghost use Rattle.zv_ule.specs.Views.{element_of};
 ghost use Rattle.zv_var.specs.Format.{enc, elements, list_fault};
 ghost use Rattle.zv_var.specs.Iters.{left_of};
 ghost use Rattle.zv_var.specs.Serialize.{serialized_len};
-ghost use Rattle.zv_var.specs.Views.{bytes_of, list_of};
+ghost use Rattle.zv_var.specs.Views.{bytes_of, list_of, parts_of};
 ghost use Rattle.zv_owned.specs.Changes.{HasPlace, IsBelow, OnMemory, change_steps, changed};
 ghost use Rattle.zv_owned.specs.Changes.{fits_change, takes_change};
 ghost use Rattle.zv_owned.specs.Owned.{TooLargeUnless};
@@ -26,12 +25,11 @@ use crate::splice::splice;
 use crate::vector::VarZeroVec;
 use std::alloc::Global;
 use std::marker::{Brand, Model, PhantomData};
-use std::ops::Range;
 use std::sync::ledger::{Blank, Ledger};
 use zv_ule::{
-    EncodeAsVarULE, NoMemory, Steps, VarRef, VarULE, VarZeroVecFormat, ZvArg, ZvKind, ZvOrd,
-    ZvOrdArg,
+    EncodeAsVarULE, NoMemory, Steps, VarBox, VarRef, VarULE, VarZeroVecFormat, ZvArg, ZvKind,
 };
+use zv_var::components::VarZeroVecComponents;
 use zv_var::iter::VarZeroSliceIter;
 use zv_var::serialize::get_serializable_bytes_non_empty;
 use zv_var::slice::VarZeroSlice;
@@ -143,6 +141,14 @@ impl<T: ZvKind, F: VarZeroVecFormat> VarZeroVecOwned<T, F> {
         self.shelf.bytes()
     }
 
+    /// The list, its count read.
+    #[inline]
+    pub fn as_components(&self) -> VarZeroVecComponents<'_, T, F>
+        ensures parts { parts_of result ≡ self.now.list }
+    {
+        self.as_slice().components()
+    }
+
     /// How many elements there are.
     #[inline]
     pub fn len(&self) -> usize
@@ -174,6 +180,14 @@ impl<T: ZvKind, F: VarZeroVecFormat> VarZeroVecOwned<T, F> {
         ensures { left_of result ≡ self.now.list }
     {
         self.as_slice().iter()
+    }
+
+    /// The elements, each copied into a box. It checks none of them again.
+    #[inline]
+    pub fn to_vec(&self, alloc: Global) -> Result<Vec<VarBox<T>>, NoMemory>
+        ensures { IfOk result (λ v. v.items ≡ self.now.list) }
+    {
+        self.as_slice().to_vec(alloc)
     }
 
     /// Whether the size rule takes an element of `len` bytes beside the list's own.
@@ -718,32 +732,6 @@ impl<T: VarULE, F: VarZeroVecFormat> VarZeroVecOwned<T, F> {
     {
         let value = Encoded::for_list(self.as_slice(), element).ok_or(VecError::TooLarge)?;
         self.replace_arg(index, &value)
-    }
-}
-
-impl<T: ZvOrd, F: VarZeroVecFormat> VarZeroVecOwned<T, F> {
-    /// Searches a range of the list, as [`VarZeroSlice::binary_search_in_range`].
-    #[inline]
-    pub fn binary_search_in_range<Q: ZvOrdArg<T>>(
-        &self,
-        needle: &Q,
-        range: Range<usize>,
-    ) -> Option<Result<usize, usize>>
-        requires below { length (Q.bytes needle.now) < 2 ^ 64 }
-        ensures none { IsNone result ↔ IsOutside range (length self.now.list) }
-        ensures found { IfSome result
-            (FoundIn (compared T.cmp self.now.list (Q.bytes needle.now)) range) }
-    {
-        self.as_slice().binary_search_in_range(needle, range)
-    }
-
-    /// Searches the list, as [`VarZeroSlice::binary_search`].
-    #[inline]
-    pub fn binary_search<Q: ZvOrdArg<T>>(&self, needle: &Q) -> Result<usize, usize>
-        requires below { length (Q.bytes needle.now) < 2 ^ 64 }
-        ensures { Found (compared T.cmp self.now.list (Q.bytes needle.now)) result }
-    {
-        self.as_slice().binary_search(needle)
     }
 }
 

@@ -1,12 +1,11 @@
 // A list in a format that is borrowed, or owns its bytes.
-ghost use Rattle.std.specs.Prelude.{◌≡◌, ⊤, ℕ, ◌==◌, ◌&&◌, ◌+◌, ◌*◌, ◌^◌, ◌<◌, ◌≤◌, ◌↔◌, []};
+ghost use Rattle.std.specs.Prelude.{◌≡◌, ⊤, ℕ, ◌==◌, ◌&&◌, ◌+◌, ◌*◌, ◌^◌, ◌<◌, ◌≤◌, []};
 ghost use Rattle.std.specs.Prelude.{length, set, slice_index_or, Option, None, Some};
-ghost use Rattle.std.specs.Prelude.{IsTrue, IfOk, OnOk, OnErr, IfSome, IsNone, IsOk, true, false};
+ghost use Rattle.std.specs.Prelude.{IsTrue, IfOk, OnOk, OnErr, IfSome, IsOk, true, false};
 ghost use Rattle.std.specs.Prelude.{◌||◌, is_some, map, not};
 ghost use Rattle.std.specs.List.{insert, remove, slice_get};
 ghost use Rattle.std.specs.Option.{option_map};
 ghost use Rattle.std.specs.Result.{result_err};
-ghost use Rattle.zv_ule.specs.Search.{Found, FoundIn, IsOutside, compared};
 ghost use Rattle.zv_ule.specs.Views.{element_of};
 ghost use Rattle.zv_var.specs.Format.{elements, enc, list_fault};
 ghost use Rattle.zv_var.specs.Iters.{left_of};
@@ -23,10 +22,9 @@ use crate::owned::{Change, VarZeroVecOwned, room_for};
 use crate::size::{growth_of, takes_change, takes_elements, takes_insert, takes_replace};
 use std::alloc::Global;
 use std::marker::Model;
-use std::ops::Range;
 use zv_ule::{
-    EncodeAsVarULE, Index16, Index32, NoMemory, UleError, VarRef, VarULE, VarZeroVecFormat, ZvArg,
-    ZvKind, ZvOrd, ZvOrdArg,
+    EncodeAsVarULE, Index16, Index32, NoMemory, UleError, VarBox, VarRef, VarULE, VarZeroVecFormat,
+    ZvArg, ZvKind,
 };
 use zv_var::components::VarZeroVecComponents;
 use zv_var::iter::VarZeroSliceIter;
@@ -323,6 +321,14 @@ impl<'a, T: ZvKind, F: VarZeroVecFormat> VarZeroVec<'a, T, F> {
         self.as_slice().iter()
     }
 
+    /// The elements, each copied into a box. It checks none of them again.
+    #[inline]
+    pub fn to_vec(&self, alloc: Global) -> Result<Vec<VarBox<T>>, NoMemory>
+        ensures { IfOk result (λ v. v.items ≡ vector_list self.now) }
+    {
+        self.as_slice().to_vec(alloc)
+    }
+
     /// Whether the size rule of [`VarZeroVecOwned`] takes an element of `len` bytes beside the
     /// list's own.
     #[inline]
@@ -332,8 +338,8 @@ impl<'a, T: ZvKind, F: VarZeroVecFormat> VarZeroVec<'a, T, F> {
         takes_insert(self.as_slice(), len)
     }
 
-    /// Whether the size rule of [`VarZeroVecOwned`] takes the list's elements one after another into
-    /// an empty list, which it then does in any order. It reads the list's length and size.
+    /// Whether the size rule of [`VarZeroVecOwned`] takes the list's elements one after another
+    /// into an empty list, which it then does in any order. It reads the list's length and size.
     #[inline]
     pub fn takes_elements(&self) -> bool
         ensures { result ≡ takes_pushes (takes_insert F.W) [] (vector_list self.now) }
@@ -671,34 +677,6 @@ impl<T: VarULE, F: VarZeroVecFormat> VarZeroVec<'static, T, F> {
         }
         let owned = VarZeroVecOwned::try_from_elements(alloc, elements)?;
         Ok(VarZeroVec::new_owned(owned))
-    }
-}
-
-impl<'a, T: ZvOrd, F: VarZeroVecFormat> VarZeroVec<'a, T, F> {
-    ghost use Rattle.zv_owned.specs.Vectors.{vector_list};
-
-    /// Searches a range of the list, as [`VarZeroSlice::binary_search_in_range`].
-    #[inline]
-    pub fn binary_search_in_range<Q: ZvOrdArg<T>>(
-        &self,
-        needle: &Q,
-        range: Range<usize>,
-    ) -> Option<Result<usize, usize>>
-        requires below { length (Q.bytes needle.now) < 2 ^ 64 }
-        ensures none { IsNone result ↔ IsOutside range (length (vector_list self.now)) }
-        ensures found { IfSome result
-            (FoundIn (compared T.cmp (vector_list self.now) (Q.bytes needle.now)) range) }
-    {
-        self.as_slice().binary_search_in_range(needle, range)
-    }
-
-    /// Searches the list, as [`VarZeroSlice::binary_search`].
-    #[inline]
-    pub fn binary_search<Q: ZvOrdArg<T>>(&self, needle: &Q) -> Result<usize, usize>
-        requires below { length (Q.bytes needle.now) < 2 ^ 64 }
-        ensures { Found (compared T.cmp (vector_list self.now) (Q.bytes needle.now)) result }
-    {
-        self.as_slice().binary_search(needle)
     }
 }
 

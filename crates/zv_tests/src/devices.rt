@@ -18,8 +18,8 @@ fn try_failing(
 ) -> Result<(), Fail> {
     let words = words_of(alloc, &["edit"])?;
     let answer = answer_of(alloc, &words, devices);
-    assert_eq!(rt; answer.status, status);
-    assert_eq!(rt; answer.sink.taken(), written);
+    assert!(rt; answer.status == status);
+    assert!(rt; answer.sink.taken() == written);
     Ok(())
 }
 
@@ -50,8 +50,8 @@ fn devices_that_never_fail(rt: HostRuntime) -> Result<(), Fail> {
     let input = join(alloc, &["x", EMPTY, "\nput x61 x62 x01\n"])?;
     let mut source = SteadySource::new(&input);
     let mut sink = CountSink::new();
-    assert_eq!(rt; run(alloc, &words, &mut source, &mut sink), Status::Done);
-    assert_eq!(rt; sink.count(), 102);
+    assert!(rt; run(alloc, &words, &mut source, &mut sink) == Status::Done);
+    assert!(rt; sink.count() == 102);
     Ok(())
 }
 
@@ -83,11 +83,11 @@ impl Write for Stuck {
 fn a_reader_of_std_is_a_source(rt: HostRuntime) -> Result<(), Fail> {
     let mut buf = [0u8; 4];
     let mut source = StdSource::new(b"abc".as_slice());
-    assert_eq!(rt; source.read(&mut buf), Ok(3));
-    assert_eq!(rt; &buf[..3], b"abc".as_slice());
-    assert_eq!(rt; source.read(&mut buf), Ok(0));
+    assert!(rt; source.read(&mut buf) == Ok(3));
+    assert!(rt; &buf[..3] == b"abc".as_slice());
+    assert!(rt; source.read(&mut buf) == Ok(0));
     let mut broken = StdSource::new(Broken);
-    assert_eq!(rt; broken.read(&mut buf), Err(Failed));
+    assert!(rt; broken.read(&mut buf) == Err(Failed));
     Ok(())
 }
 
@@ -95,11 +95,11 @@ fn a_reader_of_std_is_a_source(rt: HostRuntime) -> Result<(), Fail> {
 fn a_writer_of_std_is_a_sink(rt: HostRuntime) -> Result<(), Fail> {
     let mut out = Vec::new(rt.alloc());
     let mut sink = StdSink::new(&mut out);
-    assert_eq!(rt; sink.write(b"abc"), Ok(()));
+    assert!(rt; sink.write(b"abc") == Ok(()));
     let mut stuck = StdSink::new(Stuck);
-    assert_eq!(rt; stuck.write(b"abc"), Err(Failed));
-    assert_eq!(rt; stuck.write(b""), Ok(()));
-    assert_eq!(rt; out.as_slice(), b"abc".as_slice());
+    assert!(rt; stuck.write(b"abc") == Err(Failed));
+    assert!(rt; stuck.write(b"") == Ok(()));
+    assert!(rt; out.as_slice() == b"abc".as_slice());
     Ok(())
 }
 
@@ -129,9 +129,9 @@ fn a_short_write_goes_on_and_is_flushed(rt: HostRuntime) -> Result<(), Fail> {
         flushes: 0,
     };
     let mut sink = StdSink::new(&mut slow);
-    assert_eq!(rt; sink.write(b"abcde"), Ok(()));
-    assert_eq!(rt; slow.taken.as_slice(), b"abcde".as_slice());
-    assert_eq!(rt; slow.flushes, 1);
+    assert!(rt; sink.write(b"abcde") == Ok(()));
+    assert!(rt; slow.taken.as_slice() == b"abcde".as_slice());
+    assert!(rt; slow.flushes == 1);
     Ok(())
 }
 
@@ -152,7 +152,7 @@ impl Write for Unflushed {
 #[test]
 fn a_failed_flush_is_told(rt: HostRuntime) {
     let mut sink = StdSink::new(Unflushed);
-    assert_eq!(rt; sink.write(b"a"), Err(Failed));
+    assert!(rt; sink.write(b"a") == Err(Failed));
 }
 
 // A reader that gives a byte, then fails once, and then ends.
@@ -181,10 +181,7 @@ fn a_failed_read_is_no_end(rt: HostRuntime) -> Result<(), Fail> {
     let words = words_of(alloc, &["edit"])?;
     let mut source = StdSource::new(Halting { calls: 0 });
     let mut sink = CountSink::new();
-    assert_eq!(rt;
-        run(alloc, &words, &mut source, &mut sink),
-        Status::ReadFault
-    );
-    assert_eq!(rt; sink.count(), 0);
+    assert!(rt; run(alloc, &words, &mut source, &mut sink) == Status::ReadFault);
+    assert!(rt; sink.count() == 0);
     Ok(())
 }

@@ -37,12 +37,8 @@ fn try_piece(
     let name = case.name;
     let devices = memory_devices(alloc, &joined.input, piece, 2_000)?;
     let answer = answer_of(alloc, &joined.words, devices);
-    assert_eq!(rt; answer.status, case.status, "{name}, in pieces of {piece}");
-    assert_eq!(rt;
-        answer.sink.taken(),
-        joined.output.as_slice(),
-        "{name}, in pieces of {piece}"
-    );
+    assert!(rt; answer.status == case.status);
+    assert!(rt; answer.sink.taken() == joined.output.as_slice());
     Ok(())
 }
 
@@ -65,9 +61,9 @@ fn try_failing_write(
     let devices = failing_devices(alloc, &joined.input, &[], &[write])?;
     let answer = answer_of(alloc, &joined.words, devices);
     let taken = answer.sink.taken();
-    assert_eq!(rt; answer.status, Status::WriteFault, "{name}, write {write}");
-    assert_eq!(rt; taken.len(), len, "{name}, write {write}");
-    assert!(rt; joined.output.starts_with(taken), "{name}, write {write}");
+    assert!(rt; answer.status == Status::WriteFault);
+    assert!(rt; taken.len() == len);
+    assert!(rt; joined.output.starts_with(taken));
     Ok(())
 }
 

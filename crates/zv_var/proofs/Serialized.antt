@@ -1,10 +1,10 @@
 -- What values are written as, one after another.
 use Rattle.std.proofs.Common.{◌≡◌, ℕ, zero, suc, ◌+◌, ◌-◌, ◌*◌, ◌^◌, ◌<◌, ◌≤◌, Bool, true, false, List, [], ◌∷◌, ◌++◌, length, take, get_or, map}
-use Rattle.std.proofs.Common.{refl, ap, ◌∙◌, sym, arith, length-append, Option, Some, None, nat_lt, if◌then◌else◌, IfSome}
+use Rattle.std.proofs.Common.{refl, ap, ◌∙◌, sym, arith, length-append, Option, Some, None, nat_lt, if◌then◌else◌, IfSome, inr, replicate, is_some}
 use Rattle.std.proofs.Math.Nat.{mul-le-mul_left, mul-suc}
 use Rattle.std.proofs.lemmas.Bool.{and_parts}
 use Rattle.std.proofs.lemmas.Grind.{flat_map-append}
-use Rattle.std.proofs.lemmas.List.{append-nil, length-map, take_all, take_more}
+use Rattle.std.proofs.lemmas.List.{append-nil, length-map, take_all, take_at, take_more}
 use Rattle.std.proofs.lemmas.List.Folds.{length-flat_map-take}
 use Rattle.std.proofs.lemmas.Slice.{take-put_mid}
 use Rattle.std.specs.List.{concat, flat_map, list_all, take-map}
@@ -13,8 +13,11 @@ use borrow.Rule.Slice.PartMut.{put_mid}
 use Rattle.zv_ule.specs.Bytes.{le}
 use Rattle.zv_ule.proofs.Fields.{length-le}
 use Rattle.zv_ule.proofs.Written.{flat_map-more}
-use Rattle.zv_var.specs.Format.{codable, fits, starts, starts_from}
-use Rattle.zv_var.specs.Serialize.{lengthless, lengthless_len, serialized_len, with_count}
+use Rattle.zv_ule.specs.declared.error.UleError.{UleError}
+use Rattle.zv_var.specs.Format.{Part, codable, fits, list_fault, starts, starts_from}
+use Rattle.zv_var.specs.Laws.{AreValid}
+use Rattle.zv_var.specs.Serialize.{lengthless, lengthless_len, serialized, serialized_len, with_count}
+use Rattle.zv_var.proofs.Read.{fault_from_Part}
 use Rattle.zv_var.proofs.Encoding.{length-starts_from}
 use Rattle.zv_var.proofs.Fields.{length-flat_map-le}
 
@@ -179,6 +182,50 @@ pub spelled_codable : {X : Type 0} (p : X → Bool) (f : X → List ℕ) (w : �
     codable w (map f xs) ≡ true
 spelled_codable p f w xs n some narrow s =
     short_codable w some narrow (map f xs) (omega (arith, s, ap length (joined f xs), ap (λ (n : ℕ). w * (n - 1)) (length-map xs f)))
+
+le_zero : (w : ℕ) → le w 0 ≡ replicate w 0
+le_zero zero = refl
+le_zero (suc w) = ap (λ (l : List ℕ). 0 ∷ l) (le_zero w)
+
+-- what is written stands for the list
+pub Part_from_serialized : (w : ℕ) (xs : List (List ℕ)) → codable w xs ≡ true → Part w (serialized w xs) xs
+Part_from_serialized w [] h = inr (take_at (le w 0) (lengthless w []) w (length-le w 0) ∙ le_zero w)
+Part_from_serialized w (x ∷ xs) h = let n : suc (length xs) ≡ length xs + 1 = omega arith in (h, ap (λ (n : ℕ). le w n ++ lengthless w (x ∷ xs)) n)
+
+-- so it has no fault, if the spellings are elements
+pub spelled_sound : {X : Type 0} (p : X → Bool) (f : X → List ℕ) (K : List ℕ → Option UleError) (w : ℕ) (xs : List X) (n : ℕ) → 0 < w → 256 ^ w ≤ 2 ^ 32 →
+    IsSpelled p f w xs n → AreValid K (map f xs) → list_fault w K (serialized w (map f xs)) ≡ None
+spelled_sound p f K w xs n some narrow s valid =
+    fault_from_Part w K (serialized w (map f xs)) (map f xs) some (Part_from_serialized w (map f xs) (spelled_codable p f w xs n some narrow s)) valid
+
+-- what a length with the count says of the values
+pub record IsSerialized {X : Type 0} (p : X → Bool) (f : X → List ℕ) (w : ℕ) (xs : List X) (m : ℕ) : Type 0 where
+  pub without : ℕ
+  pub spelled : IsSpelled p f w xs without
+  pub long : length (serialized w (map f xs)) ≡ m
+
+pub serialized_is : {X : Type 0} (p : X → Bool) (f : X → List ℕ) (w : ℕ) (xs : List X) (m : ℕ) → serialized_len p f w xs ≡ Some m → IsSerialized p f w xs m
+serialized_is p f w xs m e = cases (lengthless_len p f w xs) refl e where
+  added : (n : ℕ) → with_count w n ≡ Some m → n + w ≡ m
+  added n e = grind arith
+
+  cases : (o : Option ℕ) → lengthless_len p f w xs ≡ o → option_and_then (with_count w) o ≡ Some m → IsSerialized p f w xs m
+  cases None k e = absurd cc
+  cases (Some n) k e =
+      let s = spelled p f w xs n k in
+      record {
+        without = n;
+        spelled = s;
+        long = length-append (le w (length (map f xs))) (lengthless w (map f xs))
+            ∙ omega (arith, length-le w (length (map f xs)), length_spelled p f w xs, s.is, added n e);
+      }
+
+pub serialized_some : {X : Type 0} (p : X → Bool) (f : X → List ℕ) (w : ℕ) (xs : List X) → is_some (serialized_len p f w xs) ≡ true →
+    serialized_len p f w xs ≡ Some (length (serialized w (map f xs)))
+serialized_some p f w xs h = cases (serialized_len p f w xs) refl h where
+  cases : (o : Option ℕ) → serialized_len p f w xs ≡ o → is_some o ≡ true → serialized_len p f w xs ≡ Some (length (serialized w (map f xs)))
+  cases None e k = absurd cc
+  cases (Some m) e k = e ∙ ap Some (sym (serialized_is p f w xs m e).long)
 
 -- the count fits a field
 pub count_fits : {X : Type 0} (p : X → Bool) (f : X → List ℕ) (w : ℕ) (xs : List X) (m : ℕ) → 0 < w → serialized_len p f w xs ≡ Some m → length xs < 256 ^ w

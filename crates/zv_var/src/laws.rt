@@ -1,7 +1,7 @@
 // What the format means: worked examples, and laws. Each call does nothing, and its contract is
 // what it is for.
 ghost use Rattle.zv_var.specs.Laws.{FramedIsTaken, NamesLeast, NoneWrong, OneEncoding, OneList};
-ghost use Rattle.zv_var.specs.Laws.{ReadsBack, SoundExactly};
+ghost use Rattle.zv_var.specs.Laws.{ReadsBack, SoundExactly, WrittenStands};
 ghost use Rattle.zv_var.specs.Examples.{CountOfZeroIsEmpty, CountOfZeroIsSound, CutCountIsRefused};
 ghost use Rattle.zv_var.specs.Examples.{CutLengthIsNoPart, CutPartIsNoPart, CutStartsAreRefused};
 ghost use Rattle.zv_var.specs.Examples.{EarlierFaultIsNamed, FallingStartIsRefused};
@@ -45,12 +45,14 @@ pub fn frames_by_hand()
 {}
 
 /// In every format, bytes and lists determine each other, bytes are refused exactly where they are
-/// the form of no list of valid elements, and the fault that is named is that of the least place.
+/// the form of no list of valid elements, what is written stands for its list, and the fault that
+/// is named is that of the least place.
 pub fn one_reading()
     ensures one_list { OneList }
     ensures one_encoding { OneEncoding }
     ensures sound_exactly { SoundExactly }
     ensures reads_back { ReadsBack }
+    ensures written_stands { WrittenStands }
     ensures none_wrong { NoneWrong }
     ensures names_least { NamesLeast }
 {}

@@ -1,11 +1,12 @@
 // Values that are written as a list in a format.
 ghost use Rattle.std.specs.Prelude.{◌≡◌, ◌≢◌, ℕ, ◌+◌, ◌-◌, ◌*◌, ◌^◌, ◌<◌, ◌≤◌, List, [], length};
-ghost use Rattle.std.specs.Prelude.{map, min, Some, true, IsTrue, IfOk, IfSome, IfNone, OnErr};
+ghost use Rattle.std.specs.Prelude.{map, min, None, Some, true, IsTrue, IfOk, IfSome, IfNone};
+ghost use Rattle.std.specs.Prelude.{OnErr};
 ghost use Rattle.std.specs.Prelude.{is_some, OnOk};
 ghost use Rattle.std.specs.List.{concat, flat_map, list_all};
 ghost use Rattle.std.specs.Option.{option_map};
 ghost use Rattle.zv_ule.specs.Bytes.{le};
-ghost use Rattle.zv_var.specs.Format.{codable, enc, starts};
+ghost use Rattle.zv_var.specs.Format.{codable, enc, list_fault, starts};
 ghost use Rattle.zv_var.specs.Laws.{AreValid};
 ghost use Rattle.zv_var.specs.Serialize.{lengthless, lengthless_len, serialized, serialized_len};
 
@@ -58,6 +59,8 @@ pub fn compute_serializable_len<T: VarULE, A: EncodeAsVarULE<T>, F: VarZeroVecFo
     ensures len { result ≡ serialized_len A.fits A.spelling F.W elements.now }
     ensures valid { IfSome result (λ _. AreValid T.fault (map A.spelling elements.now)) }
     ensures codable { IfSome result (λ _. codable F.W (map A.spelling elements.now) ≡ true) }
+    ensures spells { IfSome result (λ _. list_fault F.W T.fault
+        (serialized F.W (map A.spelling elements.now)) ≡ None) }
 {
     compute_serializable_len_without_length::<T, A, F>(elements)?.checked_add(F::W as u32)
 }
@@ -125,6 +128,8 @@ pub fn write_serializable_bytes<T: VarULE, A: EncodeAsVarULE<T>, F: VarZeroVecFo
     requires len { serialized_len A.fits A.spelling F.W elements.now ≡ Some (length output.old) }
     ensures written { output.new ≡ serialized F.W (map A.spelling elements.now) }
     ensures valid { AreValid T.fault (map A.spelling elements.now) }
+    ensures spells { list_fault F.W T.fault
+        (serialized F.W (map A.spelling elements.now)) ≡ None }
 {
     let (count, rest) = output.split_at_mut(F::W);
     write_count::<F>(elements.len(), count);

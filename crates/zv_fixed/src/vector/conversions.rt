@@ -1,18 +1,36 @@
 // Lists that are made of values, and lists that become others.
-ghost use Rattle.std.specs.Prelude.{◌≡◌, ◌*◌, ◌≤◌, [], true, false, not, is_some, map, flat_map};
-ghost use Rattle.std.specs.Prelude.{IsTrue, IfOk, IfSome, IsOk};
+ghost use Rattle.std.specs.Prelude.{◌≡◌, ◌*◌, ◌-◌, ◌≤◌, [], true, false, not, is_some, map};
+ghost use Rattle.std.specs.Prelude.{flat_map, None, IsTrue, IfOk, IfSome, IsOk, vec_capacity};
+ghost use Rattle.std.specs.Prelude.{vec_len};
 ghost use Rattle.std.specs.Iterator.{Drains, IsFinite};
 ghost use Rattle.std.specs.Result.{result_err};
 ghost use Rattle.zv_ule.specs.Chunks.{chunks_fault, values_of};
 
 use super::ZeroVec;
 use crate::cow_bytes::CowBytes;
-use crate::values::{all_stored, store_all, zeros};
+use crate::values::{all_stored, joined, stored};
 use std::alloc::Global;
 use std::marker::PhantomData;
-use zv_ule::{AsULE, NoMemory, SliceAsULE, ULE, UleError, all_known, write_all};
+use zv_ule::{AsULE, NoMemory, SliceAsULE, ULE, UleError, all_known};
 
 impl<'a, T: AsULE> ZeroVec<'a, T> {
+    /// The list that owned bytes are, which have no fault.
+    #[inline]
+    fn of_owned(bytes: Vec<u8>) -> Self
+        requires usable { IsTrue T.usable }
+        requires spells { chunks_fault T.ULE.TY T.ULE.width T.ULE.chunk_fault bytes.items ≡ None }
+        ensures values { result.values
+            ≡ values_of T.ULE.width (λ b. T.loaded (T.ULE.value b)) bytes.items }
+        ensures bytes { result.bytes ≡ bytes.items }
+        ensures spare { result.spare ≡ vec_capacity bytes - vec_len bytes }
+        ensures owned { result.owned ≡ true }
+    {
+        ZeroVec {
+            cow: CowBytes::Owned(bytes),
+            of: PhantomData,
+        }
+    }
+
     /// A list of no values that owns memory for `capacity` of them.
     pub fn with_capacity(alloc: Global, capacity: usize) -> Result<Self, NoMemory>
         requires { IsTrue T.usable }
@@ -24,10 +42,7 @@ impl<'a, T: AsULE> ZeroVec<'a, T> {
         let bytes = capacity
             .checked_mul(<T::ULE as ULE>::size())
             .ok_or(NoMemory)?;
-        Ok(ZeroVec {
-            cow: CowBytes::Owned(Vec::with_capacity(alloc, bytes)?),
-            of: PhantomData,
-        })
+        Ok(ZeroVec::of_owned(Vec::with_capacity(alloc, bytes)?))
     }
 
     /// A list of values that are given as they are stored. It owns its bytes.
@@ -38,12 +53,7 @@ impl<'a, T: AsULE> ZeroVec<'a, T> {
         ensures owned { IfOk result (λ v. v.owned ≡ true) }
     {
         all_known(ules);
-        let mut bytes = zeros::<T::ULE>(alloc, ules.len())?;
-        write_all(ules, &mut bytes);
-        Ok(ZeroVec {
-            cow: CowBytes::Owned(bytes),
-            of: PhantomData,
-        })
+        Ok(ZeroVec::of_owned(joined(alloc, ules)?))
     }
 
     /// A list of the values of a slice. It owns its bytes.
@@ -55,12 +65,7 @@ impl<'a, T: AsULE> ZeroVec<'a, T> {
         ensures owned { IfOk result (λ v. v.owned ≡ true) }
     {
         all_stored(other);
-        let mut bytes = zeros::<T::ULE>(alloc, other.len())?;
-        store_all(other, &mut bytes);
-        Ok(ZeroVec {
-            cow: CowBytes::Owned(bytes),
-            of: PhantomData,
-        })
+        Ok(ZeroVec::of_owned(stored(alloc, other)?))
     }
 
     /// A list of the items, in order. It owns its bytes.

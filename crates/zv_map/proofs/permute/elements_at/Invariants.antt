@@ -7,5 +7,6 @@ abbrev pub invariant-loop-place : goal.invariant-loop-place
 invariant-loop-place g l = record {
   list : g.C.ZeroVecLike.list l.ordered ≡ permuted (g.C.ZeroVecLike.list l.list) (take l.place-index l.places);
   owned : g.C.ZvContainer.owned l.ordered ≡ true;
-  taken : takes_pushes g.C.ZvContainer.takes_insert (g.C.ZeroVecLike.list l.ordered) (permuted (g.C.ZeroVecLike.list l.list) (drop l.place-index l.places)) ≡ true;
+  taken : takes_pushes g.C.ZvContainer.takes_insert (g.C.ZeroVecLike.list l.ordered)
+      (permuted (g.C.ZeroVecLike.list l.list) (drop l.place-index l.places)) ≡ true;
 }

@@ -1,7 +1,15 @@
 use Rattle.std.proofs.Common.{length}
-use Rattle.zv_var.proofs.Serialized.{count_fits}
+use Rattle.zv_var.proofs.Serialized.{count_fits, serialized_is, spelled_sound}
 use Rattle.zv_var.proofs.serialize.write_serializable_bytes.Goals as goal
 
 pub write_count-requires-clause-fits : goal.write_count-requires-clause-fits
 write_count-requires-clause-fits g c = count_fits g.A.EncodeAsVarULE.fits g.A.EncodeAsVarULE.spelling g.F.VarZeroVecFormat.W c.args.elements.now
     (length c.args.output.now) g.F.VarZeroVecFormat.width_positive c.requires.len
+
+pub returns-clause-spells : goal.returns-clause-spells
+returns-clause-spells g c =
+    let a = g.A.EncodeAsVarULE in
+    let f = g.F.VarZeroVecFormat in
+    let s = serialized_is a.fits a.spelling f.W c.args.elements.now (length c.args.output.now) c.requires.len in
+    spelled_sound a.fits a.spelling g.T.ZvKind.fault f.W c.args.elements.now s.without f.width_positive f.field_small s.spelled
+    c.write_serializable_bytes_without_length.ensures.valid

@@ -8,3 +8,7 @@ first_of value from xs ys u t h e = sym (map-map from value xs) ∙ ap (map from
 
 pub returns : goal.returns
 returns g c = first_of g.T.ULE.ULE.value g.T.AsULE.loaded _ _ _ _ c.in_ok-stored.ensures.values c.from_unaligned.ensures.same
+
+pub returns-in_err-stored : goal.returns-in_err-stored
+returns-in_err-stored g c =
+    rw c.from_residual.ensures (sym (map-map g.T.AsULE.loaded g.T.ULE.ULE.value _) ∙ ap (map g.T.AsULE.loaded) c.in_err-stored.ensures.values)

@@ -16,7 +16,7 @@ pub invariant_of-self : goal.invariant_of-self
 invariant_of-self g c =
     let u = g.T.ULE.ULE in
     let here = ap (λ v. v.bytes) c.self.view_is in
-    let one = one_good u.TY u.width u.chunk_fault _ (sym (g.met.T.AsULE.kind.errors _) ∙ c.set.ensures.spells) in (
+    let one = one_good u.TY u.width u.chunk_fault _ (sym (g.met.T.AsULE.kind.errors _) ∙ c.arg_len.ensures.spells) in (
       c.self.invariant.0,
       after_either c.set.result c.set.ensures.ok c.set.ensures.err
           (λ e. (replaced u.width c.args.index _ _ _ _ c.self.invariant.0 here c.start_of-start.ensures.start _ _ c.requires.place one.0
@@ -28,7 +28,7 @@ pub returns-clause-ok : goal.returns-clause-ok
 returns-clause-ok g c =
     let u = g.T.ULE.ULE in
     let here = ap (λ v. v.bytes) c.self.view_is in
-    let one = one_good u.TY u.width u.chunk_fault _ (sym (g.met.T.AsULE.kind.errors _) ∙ c.set.ensures.spells) in
+    let one = one_good u.TY u.width u.chunk_fault _ (sym (g.met.T.AsULE.kind.errors _) ∙ c.arg_len.ensures.spells) in
     on_ok_weaker c.set.result
     (λ e. (replaced u.width c.args.index _ _ _ _ c.self.invariant.0 here c.start_of-start.ensures.start _ _ c.requires.place one.0
     (omega (arith, c.arg_len.ensures.len, one.0)) e).chunks) c.set.ensures.ok

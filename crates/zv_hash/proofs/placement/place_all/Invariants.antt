@@ -1,0 +1,9 @@
+use Rattle.std.proofs.Common.{length}
+use Rattle.zv_hash.specs.Filling.{Filled}
+use Rattle.zv_hash.proofs.placement.place_all.Given as goal
+
+abbrev pub invariant-loop-wanted : goal.invariant-loop-wanted
+invariant-loop-wanted l = Filled l.chains.hashes.now l.displacements l.places l.wanted (length l.chains.hashes.now)
+
+abbrev pub decreases-loop-wanted : goal.decreases-loop-wanted
+decreases-loop-wanted l = l.wanted

@@ -1,0 +1,7 @@
+pub mod Splitting
+pub mod Placement
+pub mod Chains
+pub mod Filling
+pub mod Refusals
+pub mod Rowed
+pub mod Rows

@@ -1,0 +1,30 @@
+// Why hashes or pairs have no table.
+ghost use Rattle.std.specs.Prelude.{◌≡◌};
+
+use std::alloc::AllocError;
+
+/// Why there is no table. The causes stand in the order in which they are looked for.
+#[derive(Clone, Copy, Debug, PartialEq, Eq)]
+pub enum HashError {
+    /// There are 2^32 keys or more.
+    TooMany,
+    /// A vector of the keys or the values would be too large.
+    TooLarge,
+    /// A key repeats: the first place whose key stands at an earlier place, and that place.
+    Repeated { first: usize, second: usize },
+    /// No displacement sends the hashes of this bucket to free slots.
+    NoPlace { bucket: usize },
+    /// No memory was given.
+    Memory,
+}
+
+impl From<AllocError> for HashError {
+    ghost use Rattle.std.specs.Prelude.{◌≡◌};
+    ghost use Rattle.zv_hash.specs.declared.error.HashError.{HashError};
+
+    ghost from_gives = { λ _ e. e ≡ HashError.Memory };
+
+    fn from(_error: AllocError) -> HashError {
+        HashError::Memory
+    }
+}

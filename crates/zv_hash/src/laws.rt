@@ -1,0 +1,26 @@
+// What the definitions say of worked lists.
+ghost use Rattle.zv_hash.specs.Rows.{EqualHashes, HigherFirst, IndexOfNone, IndexOfParts};
+ghost use Rattle.zv_hash.specs.Rows.{IndexWraps, KeyHashes, LargerFirst, OneBucket, OneHash};
+ghost use Rattle.zv_hash.specs.Rows.{SameSlot, SplitInThree, TenKeys, ThreeKeys};
+
+/// The worked values of splitting and of the index.
+#[tactic(auto, unfolding(crate::specs::Splitting::bucket_of, crate::specs::Splitting::slot_of))]
+pub fn worked_indices()
+    ensures split { SplitInThree }
+    ensures index { IndexOfParts }
+    ensures wraps { IndexWraps }
+    ensures none { IndexOfNone }
+{}
+
+/// Placements that were worked out by hand, and by a model of the rules for the keys 0 to 9.
+pub fn worked_placements()
+    ensures one { OneHash }
+    ensures equal { EqualHashes }
+    ensures one_bucket { OneBucket }
+    ensures higher_first { HigherFirst }
+    ensures larger_first { LargerFirst }
+    ensures same_slot { SameSlot }
+    ensures key_hashes { KeyHashes }
+    ensures three_keys { ThreeKeys }
+    ensures ten_keys { TenKeys }
+{}
