@@ -58,7 +58,7 @@ module _ (takes : List Bytes → ℕ → Bool) where
   taken_alike any xs ys p =
       same_from_decides {P = takes_pushes takes [] xs ≡ true} _ _ (λ e. e, λ e. e) (any ys xs (IsPermutation-sym xs ys p), any xs ys p)
 
--- what the size rule takes is refused for want of memory alone
+-- what the size rule takes is refused only where an allocation fails
 pub only_memory : (A : Type 0) (takes : Bool) (e : MapError) → takes ≡ true → TooLargeUnless {A = A} takes (Err e) → e ≡ Memory
 only_memory A takes TooLarge t h = cc
 only_memory A takes Memory t h = refl

@@ -6,7 +6,7 @@ use Rattle.zv_owned.specs.declared.error.VecError.TheVariants.{Memory as VecMemo
 use Rattle.zv_map.specs.declared.error.MapError.{MapError}
 use Rattle.zv_map.specs.declared.error.MapError.TheVariants.{TooLarge, Memory}
 
--- Refused as too large exactly where the size rule says no; want of memory comes after the rule.
+-- Refused as too large exactly where the size rule says no; an allocation fails only after that.
 abbrev pub TooLargeUnless : {A : Type 0} → Bool → Result A MapError → Type 0
 TooLargeUnless fits (Ok _) = fits ≡ true
 TooLargeUnless fits (Err TooLarge) = fits ≡ false

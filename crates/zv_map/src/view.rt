@@ -46,7 +46,7 @@ impl Form {
 /// The bytes of a container and their form, without their kind.
 #[derive(Clone, Copy, Debug)]
 pub struct RawView<'b> {
-    /// The bytes.
+    /// The bytes of the list, as the container keeps them.
     pub bytes: &'b [u8],
     /// How they spell a list.
     pub form: Form,

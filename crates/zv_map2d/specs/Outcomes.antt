@@ -10,7 +10,7 @@ use Rattle.zv_map2d.specs.Views.{Map2d}
 use Rattle.zv_map2d.specs.declared.error.Map2dError.{Map2dError}
 use Rattle.zv_map2d.specs.declared.error.Map2dError.TheVariants.{TooLarge, TooMany, Memory}
 
--- a refusal leaves the map as it was; want of memory may leave its vectors owned, with more room
+-- a refusal leaves the map as it was; a failed allocation may leave vectors owned, with more room
 abbrev pub IsLeftBy : Map2d → Map2d → Map2dError → Type 0
 IsLeftBy old new TooLarge = new ≡ old
 IsLeftBy old new TooMany = new ≡ old
@@ -33,7 +33,7 @@ Puts bytes rule order0 order1 old new k0 k1 v r =
     (fits rule order0 order1 old.rows k0 k1 v)
     (is_none (find order0 order1 old.rows k0 k1) && is_full old.rows) r
 
--- the pair of keys is deleted, and what it had is given back; want of memory leaves the same map
+-- the pair of keys is deleted, and what it had is given back; a failed allocation leaves the map
 pub record Dels {A E : Type 0} (bytes : A → Bytes) (order0 order1 : Order) (old new : Map2d)
     (k0 k1 : Bytes) (r : Result (Option A) E) : Type 0 where
   pub rows : OnOk r (new.rows ≡ del order0 order1 old.rows k0 k1)

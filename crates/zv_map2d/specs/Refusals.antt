@@ -12,7 +12,7 @@ abbrev pub is_full : Rows → Bool
 is_full m = nat_le 4294967295 (length (seconds m))
 
 -- why it is refused: as too large exactly where the value doesn't fit, and as too many exactly
--- where it fits and no pair more can be counted; want of memory comes after both
+-- where it fits and no pair more can be counted; an allocation fails only after both
 abbrev pub IsRefusal : Bool → Bool → Map2dError → Type 0
 IsRefusal fits full TooLarge = fits ≡ false
 IsRefusal fits full TooMany = (fits ≡ true) × (full ≡ true)

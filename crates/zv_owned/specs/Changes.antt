@@ -9,7 +9,7 @@ use Rattle.zv_owned.specs.declared.error.VecError.TheVariants.{TooLarge, Memory}
 use Rattle.zv_owned.specs.declared.owned.Change.{Change}
 use Rattle.zv_owned.specs.declared.owned.Change.TheVariants.{Insert, Replace, Remove}
 
--- it is said of a refusal for want of memory
+-- it is said where an allocation fails
 abbrev pub OnMemory : {A : Type 0} → Result A VecError → Type 0 → Type 0
 OnMemory (Ok v) P = ⊤
 OnMemory (Err TooLarge) P = ⊤

@@ -9,7 +9,7 @@ pub record Owned : Type 0 where
   pub bytes : List ℕ
   pub spare : ℕ
 
--- a change that the size rule takes is refused at most for want of memory, and any other as too
+-- a change that the size rule takes is refused only where an allocation fails, and any other as too
 -- large
 abbrev pub TooLargeUnless : {A : Type 0} → Bool → Result A VecError → Type 0
 TooLargeUnless taken (Ok v) = taken ≡ true

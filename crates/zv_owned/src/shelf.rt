@@ -84,7 +84,7 @@ impl Shelf {
         self.buffer.len()
     }
 
-    /// The bytes.
+    /// What was written into the shelf so far, in place.
     #[inline]
     pub fn bytes(&self) -> &[u8]
         ensures { result.now ≡ self.now.bytes }

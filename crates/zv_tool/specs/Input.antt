@@ -144,7 +144,7 @@ parse_lines (first ∷ rest) = image_and (field first) (commands 2 rest)
 unfoldable pub parse_input : List ℕ → Result (List ℕ × List Command) ℕ
 parse_input input = parse_lines (lines input)
 
--- The error names the bad line that parsing gives; want of memory says nothing.
+-- The error names the bad line that parsing gives; after a failed allocation nothing is said.
 abbrev pub ReportsLine : {A : Type 0} → Result A ℕ → InputError → Type 0
 ReportsLine parsed (BadLine number) = parsed ≡ Err number
 ReportsLine parsed Memory = Unit {0}

@@ -104,7 +104,7 @@ fn read_row(alloc: Global, fields: &[u8]) -> Result<Option<Command>, NoMemory>
     }
 }
 
-// The command of a name and its fields, or `None` where they are none.
+// The command of a name and its fields, or `None` where there is no such command.
 fn read_named(alloc: Global, name: &[u8], fields: &[u8]) -> Result<Option<Command>, NoMemory>
     ensures { IfOk result (λ command. command ≡ command_of name.now (words fields.now)) }
 {

@@ -13,7 +13,7 @@ use crate::error::VarZeroVecFormatError;
 use zv_ule::{VarZeroVecFormat, ZvKind, read_start};
 
 /// Whether the list is known to have no fault, by a look at all elements' bytes at once and at the
-/// starts. `false` claims nothing: then `check_elements` decides.
+/// starts. `false` means not known: then `check_elements` decides.
 pub(crate) fn are_sound<T: ZvKind, F: VarZeroVecFormat>(
     starts: usize,
     indices: &[u8],
@@ -58,7 +58,7 @@ fn are_in_order<F: VarZeroVecFormat>(starts: usize, indices: &[u8], end: usize) 
     good & (start as usize <= end)
 }
 
-/// Whether each start is known to be a boundary of the elements' bytes. `false` claims nothing.
+/// Whether each start is known to be a boundary of the elements' bytes. `false` means not known.
 fn are_boundaries<T: ZvKind, F: VarZeroVecFormat>(
     starts: usize,
     indices: &[u8],
