@@ -1,3 +1,4 @@
 pub mod Appended
+pub mod Building
 pub mod Found
 pub mod Zipped

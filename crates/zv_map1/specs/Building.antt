@@ -1,6 +1,7 @@
 -- A map that is made of pairs in any order, or of two vectors.
 use Rattle.std.specs.Prelude.{◌≡◌, ℕ, ◌==◌, Bool, true, false, ◌&&◌, cond, List, [], ◌∷◌, length}
 use Rattle.std.specs.Prelude.{map, Option, Some, None, Result, Ok, Err, ⊤}
+use Rattle.std.specs.List.{fold}
 use Rattle.zv_map.specs.Keys.{ascends}
 use Rattle.zv_map.specs.declared.error.MapError.{MapError}
 use Rattle.zv_map.specs.declared.error.MapError.TheVariants.{TooLarge, Memory}
@@ -11,8 +12,7 @@ use Rattle.zv_map1.specs.declared.error.VecsError.TheVariants.{Count, KeyOrder}
 
 -- the map with the pairs inserted, one after another
 abbrev pub insert_all : Order → Pairs → Pairs → Pairs
-insert_all order m [] = m
-insert_all order m (p ∷ ps) = insert_all order (insert_entry order m p.0 p.1) ps
+insert_all order m ps = fold (λ z p. insert_entry order z p.0 p.1) m ps
 
 -- each fits in its turn
 abbrev pub all_fit : Rule → Order → Pairs → Pairs → Bool

@@ -2,6 +2,7 @@ pub mod Appends
 pub mod Borrowed
 pub mod Building
 pub mod Fits
+pub mod Laws
 pub mod Outcomes
 pub mod Room
 pub mod Searches

@@ -60,6 +60,7 @@ impl<
             ≡ not (is_above K.cmp self.old.pairs (Q.bytes key.now))) }
         ensures same { IfOk result (λ o. IfSome o (λ p. (p.0.now ≡ key.now)
             × (p.1.now ≡ value.now))) }
+        ensures kept { IfOk result (λ o. IfSome o (λ _. self.new ≡ self.old)) }
         ensures err { IfErr result (IsLeftBy self.old self.new) }
         ensures refused { TooLargeUnless
             (not (is_above K.cmp self.old.pairs (Q.bytes key.now)) || pair_fits

@@ -1,18 +1,21 @@
 // A view of a map.
-ghost use Rattle.std.specs.Prelude.{◌≡◌, ⊤, ℕ, ◌==◌, ◌^◌, ◌<◌, ◌↔◌, IsTrue, [], length, map, zip};
+ghost use Rattle.std.specs.Prelude.{◌≡◌, ⊤, ℕ, ◌==◌, ◌-◌, ◌^◌, ◌<◌, ◌≤◌, ◌↔◌, IsTrue, [], length};
+ghost use Rattle.std.specs.Prelude.{map, zip};
 ghost use Rattle.std.specs.Prelude.{is_some, option_map};
 ghost use Rattle.std.specs.List.Sorted.{IsStrictlySortedBy};
 ghost use Rattle.zv_map.specs.Views.{bytes_of, list_of};
+ghost use Rattle.zv_ule.specs.Search.{AtMostDigits};
 ghost use Rattle.zv_ule.specs.Views.{element_of};
 
-use crate::search::place_of;
+use crate::search::{place_of, place_of_counted};
 use std::alloc::AllocError;
 use std::cmp::Ordering;
+use std::sync::ledger::Ledger;
 use zv_map::{
     KvSlice, ZeroMapCopied, ZeroMapCopiedValues, ZeroMapIter, ZeroMapKeys, ZeroMapValues,
     ZeroVecLike, ZeroVecSearchBy,
 };
-use zv_ule::{AsULE, VarRef, ZvKind, ZvOrd, ZvOrdArg};
+use zv_ule::{AsULE, Steps, VarRef, ZvKind, ZvOrd, ZvOrdArg};
 
 /// A view of a map: of its keys and of its values. It is copied freely, and what it gives lives as
 /// long as the bytes.
@@ -108,6 +111,25 @@ impl<'a, K: ZvOrd, V: ZvKind> ZeroMapBorrowed<'a, K, V> {
             ≡ look_up K.cmp (pairs_of self.entry) (Q.bytes key.now) }
     {
         let Ok(at) = place_of(&self.keys, key) else {
+            return None;
+        };
+        self.values.get(at)
+    }
+
+    /// The value of the key, if there is one, with each comparison counted as a step: at most as
+    /// many as the number of pairs has binary digits.
+    pub fn get_counted<Q: ZvOrdArg<K>, L: Ledger>(
+        self,
+        key: &Q,
+        steps: &mut Steps<L>,
+    ) -> Option<VarRef<'a, V>>
+        requires { length (Q.bytes key.now) < 2 ^ 64 }
+        ensures value { option_map element_of result
+            ≡ look_up K.cmp (pairs_of self.entry) (Q.bytes key.now) }
+        ensures digits { AtMostDigits (steps.new - steps.old) (length (pairs_of self.entry)) }
+        ensures counted { steps.old ≤ steps.new }
+    {
+        let Ok(at) = place_of_counted(&self.keys, key, steps) else {
             return None;
         };
         self.values.get(at)

@@ -1,11 +1,12 @@
 // How a map is made.
-ghost use Rattle.std.specs.Prelude.{◌≡◌, ◌||◌, ◌&&◌, ◌==◌, ◌≤◌, [], length, zip, IsTrue, IfOk, IfSome};
+ghost use Rattle.std.specs.Prelude.{◌≡◌, ◌*◌, ◌||◌, ◌&&◌, ◌==◌, ◌≤◌, [], length, zip, IsTrue, IfOk};
+ghost use Rattle.std.specs.Prelude.{IfSome};
 ghost use Rattle.std.specs.Prelude.{OnErr, OnOk, false, is_some};
 ghost use Rattle.std.specs.Result.{result_err};
 ghost use Rattle.zv_map.specs.Views.{bytes_of};
 ghost use Rattle.zv_map1.specs.Borrowed.{pairs_of};
 ghost use Rattle.zv_map1.specs.Building.{columns_fault};
-ghost use Rattle.zv_map1.specs.Room.{IsSameMap, KeepsRoom};
+ghost use Rattle.zv_map1.specs.Room.{CanGrowBy, IsSameMap, KeepsRoom};
 
 use crate::borrowed::ZeroMapBorrowed;
 use crate::error::VecsError;
@@ -26,6 +27,8 @@ impl<K: ZvOrd, V: ZvKind, C: ZvContainer<K> + Drop, D: ZvContainer<V> + Drop> Ma
         ensures pairs { IfOk result (λ m. m.pairs ≡ zip (C.list keys) (D.list values)) }
         ensures keys { IfOk result (λ m. m.keys.bytes ≡ C.bytes keys) }
         ensures values { IfOk result (λ m. m.values.bytes ≡ D.bytes values) }
+        ensures owned { IfOk result (λ m. (m.keys.owned ≡ C.owned keys)
+            × (m.values.owned ≡ D.owned values)) }
     {
         let _usable = (keys.zvl_as_borrowed(), values.zvl_as_borrowed());
         if keys.zvl_len() != values.zvl_len() {
@@ -69,6 +72,7 @@ impl<
         ensures pairs { result.pairs ≡ [] }
         ensures keys { result.keys.bytes ≡ [] }
         ensures values { result.values.bytes ≡ [] }
+        ensures owned { (result.keys.owned ≡ false) × (result.values.owned ≡ false) }
     {
         MapOver {
             keys: C::zvl_new(),
@@ -81,7 +85,9 @@ impl<
     pub fn with_capacity(alloc: Global, capacity: usize) -> Result<Self, NoMemory>
         requires keys { IsTrue K.usable }
         requires values { IsTrue V.usable }
-        ensures { IfOk result (λ m. m.pairs ≡ []) }
+        ensures pairs { IfOk result (λ m. m.pairs ≡ []) }
+        ensures room { IfOk result (CanGrowBy (capacity * C.element_room)
+            (capacity * D.element_room)) }
     {
         let mut map = Self::new();
         map.reserve(alloc, capacity)?;
@@ -91,7 +97,9 @@ impl<
     /// Makes both vectors own their bytes, with room for so many pairs more whose lengths aren't
     /// known: four bytes and the width of a field for an element of any length.
     pub fn reserve(&mut self, alloc: Global, additional: usize) -> Result<(), NoMemory>
-        ensures { IsSameMap self.old self.new }
+        ensures same { IsSameMap self.old self.new }
+        ensures room { OnOk result (CanGrowBy (additional * C.element_room)
+            (additional * D.element_room) self.new) }
     {
         let keys = additional
             .checked_mul(self.keys.zvl_element_room())

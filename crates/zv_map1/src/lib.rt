@@ -10,6 +10,7 @@ pub mod borrowed;
 mod build;
 mod edits;
 pub mod error;
+pub mod laws;
 pub mod map;
 mod search;
 

@@ -1,11 +1,12 @@
 // A map in one level, and its reads.
-ghost use Rattle.std.specs.Prelude.{◌≡◌, ℕ, ◌==◌, ◌^◌, ◌<◌, ◌↔◌, IsTrue, [], length, map};
+ghost use Rattle.std.specs.Prelude.{◌≡◌, ℕ, ◌==◌, ◌-◌, ◌^◌, ◌<◌, ◌≤◌, ◌↔◌, IsTrue, [], length};
+ghost use Rattle.std.specs.Prelude.{map, true};
 ghost use Rattle.std.specs.Prelude.{is_some, option_map};
 ghost use Rattle.std.specs.Result.{MatchResult};
 ghost use Rattle.zv_map.specs.Iters.{copied_left, copied_values_left, elements_left, left_of};
 ghost use Rattle.zv_map.specs.Maps.{IsAt, IsMap};
 ghost use Rattle.zv_map.specs.Views.{bytes_of, list_of};
-ghost use Rattle.zv_ule.specs.Search.{IsGap, compared};
+ghost use Rattle.zv_ule.specs.Search.{AtMostDigits, IsGap, compared};
 ghost use Rattle.zv_ule.specs.Views.{element_of};
 ghost use Rattle.zv_map1.specs.Borrowed.{pairs_of};
 ghost use Rattle.zv_map1.specs.Searches.{IsCopiedBy, IsFoundBy};
@@ -14,14 +15,15 @@ ghost use Rattle.zv_map1.specs.Views.{keys_of, look_up, values_of};
 mod casts;
 
 use crate::borrowed::ZeroMapBorrowed;
-use crate::search::place_of;
+use crate::search::{place_of, place_of_counted};
 use std::cmp::Ordering;
 use std::marker::{Model, PhantomData};
+use std::sync::ledger::Ledger;
 use zv_map::{
     KvSlice, ZeroMapCopied, ZeroMapCopiedValues, ZeroMapIter, ZeroMapKV, ZeroMapKeys,
     ZeroMapValues, ZeroVecSearchBy, ZvContainer,
 };
-use zv_ule::{AsULE, VarRef, ZvKind, ZvOrd, ZvOrdArg};
+use zv_ule::{AsULE, Steps, VarRef, ZvKind, ZvOrd, ZvOrdArg};
 
 /// A map in one level, over the containers of its keys and its values: the keys ascend strictly,
 /// and each value stands at its key's place.
@@ -126,6 +128,8 @@ impl<K: ZvOrd, V: ZvKind, C: ZvContainer<K>, D: ZvContainer<V>> MapOver<K, V, C,
         ensures pairs { pairs_of result ≡ self.now.pairs }
         ensures keys { bytes_of result.keys ≡ self.now.keys.bytes }
         ensures values { bytes_of result.values ≡ self.now.values.bytes }
+        ensures fits { (C.has_form result.keys.form ≡ true)
+            × (D.has_form result.values.form ≡ true) }
     {
         ZeroMapBorrowed::of_valid(self.keys.zvl_as_borrowed(), self.values.zvl_as_borrowed())
     }
@@ -140,6 +144,22 @@ impl<K: ZvOrd, V: ZvKind, C: ZvContainer<K>, D: ZvContainer<V>> MapOver<K, V, C,
         place_of(&self.keys, key)
     }
 
+    /// The same, with each comparison counted as a step.
+    fn place_counted<Q: ZvOrdArg<K>, L: Ledger>(
+        &self,
+        key: &Q,
+        steps: &mut Steps<L>,
+    ) -> Result<usize, usize>
+        requires { length (Q.bytes key.now) < 2 ^ 64 }
+        ensures place { MatchResult result
+            (IsAt (compared K.cmp (keys_of self.now.pairs) (Q.bytes key.now)))
+            (IsGap (compared K.cmp (keys_of self.now.pairs) (Q.bytes key.now))) }
+        ensures digits { AtMostDigits (steps.new - steps.old) (length self.now.pairs) }
+        ensures counted { steps.old ≤ steps.new }
+    {
+        place_of_counted(&self.keys, key, steps)
+    }
+
     /// The value of the key, if there is one. It is one search, and takes no memory.
     pub fn get<Q: ZvOrdArg<K>>(&self, key: &Q) -> Option<VarRef<'_, V>>
         requires { length (Q.bytes key.now) < 2 ^ 64 }
@@ -147,6 +167,25 @@ impl<K: ZvOrd, V: ZvKind, C: ZvContainer<K>, D: ZvContainer<V>> MapOver<K, V, C,
             ≡ look_up K.cmp self.now.pairs (Q.bytes key.now) }
     {
         let Ok(at) = self.place(key) else {
+            return None;
+        };
+        self.values.zvl_get(at)
+    }
+
+    /// The value of the key, if there is one, with each comparison counted as a step: at most as
+    /// many as the number of pairs has binary digits.
+    pub fn get_counted<Q: ZvOrdArg<K>, L: Ledger>(
+        &self,
+        key: &Q,
+        steps: &mut Steps<L>,
+    ) -> Option<VarRef<'_, V>>
+        requires { length (Q.bytes key.now) < 2 ^ 64 }
+        ensures value { option_map element_of result
+            ≡ look_up K.cmp self.now.pairs (Q.bytes key.now) }
+        ensures digits { AtMostDigits (steps.new - steps.old) (length self.now.pairs) }
+        ensures counted { steps.old ≤ steps.new }
+    {
+        let Ok(at) = self.place_counted(key, steps) else {
             return None;
         };
         self.values.zvl_get(at)
