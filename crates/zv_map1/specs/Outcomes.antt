@@ -1,10 +1,10 @@
 -- What an edit of a map leaves, and what it gives back.
-use Rattle.std.specs.Prelude.{◌≡◌, Bool, Option, option_map, Result, OnOk, OnErr, IfOk, IfErr}
+use Rattle.std.specs.Prelude.{◌≡◌, Bool, Option, option_map, Result, OnOk, IfOk, IfErr}
 use Rattle.zv_map.specs.Refusals.{TooLargeUnless}
 use Rattle.zv_map.specs.declared.error.MapError.{MapError}
 use Rattle.zv_map.specs.declared.error.MapError.TheVariants.{TooLarge, Memory}
 use Rattle.zv_map1.specs.Room.{IsSameMap}
-use Rattle.zv_map1.specs.Views.{Bytes, Map1, Order, Pairs, look_up, without_key}
+use Rattle.zv_map1.specs.Views.{Bytes, Map1, Pairs}
 
 -- a refusal leaves the map as it was; want of memory may leave its vectors owned, with more room
 abbrev pub IsLeftBy : Map1 → Map1 → MapError → Type 0
@@ -19,10 +19,3 @@ pub record Inserts {A : Type 0} (bytes : A → Bytes) (old new : Map1) (m : Pair
   pub before : IfOk r (λ o. option_map bytes o ≡ v)
   pub err : IfErr r (IsLeftBy old new)
   pub refused : TooLargeUnless fits r
-
--- the key is deleted, and what it had is given back; want of memory leaves the same map
-pub record Dels {A E : Type 0} (bytes : A → Bytes) (order : Order) (old new : Map1)
-    (k : Bytes) (r : Result (Option A) E) : Type 0 where
-  pub pairs : OnOk r (new.pairs ≡ without_key order old.pairs k)
-  pub before : IfOk r (λ o. option_map bytes o ≡ look_up order old.pairs k)
-  pub err : OnErr r (IsSameMap old new)

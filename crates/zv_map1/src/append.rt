@@ -1,12 +1,13 @@
 // Pairs that are put at the end of a map, and maps that are made of pairs in any order.
 ghost use Rattle.std.specs.Prelude.{◌≡◌, ◌^◌, ◌<◌, ◌&&◌, ◌||◌, [], length, not, IsTrue, IfErr, IfOk};
-ghost use Rattle.std.specs.Prelude.{IfSome, OnOk, is_some, option_map};
+ghost use Rattle.std.specs.Prelude.{IfSome, OnErr, OnOk, is_some, option_map};
 ghost use Rattle.std.specs.List.{All};
 ghost use Rattle.zv_map.specs.Refusals.{TooLargeUnless};
+ghost use Rattle.zv_map.specs.declared.error.MapError.{MapError};
 ghost use Rattle.zv_map1.specs.Appends.{appended, is_above};
 ghost use Rattle.zv_map1.specs.Building.{TooLargeOrMemory, all_fit, insert_all, written};
 ghost use Rattle.zv_map1.specs.Fits.{fits, pair_fits, rule_of};
-ghost use Rattle.zv_map1.specs.Outcomes.{Inserts, IsLeftBy};
+ghost use Rattle.zv_map1.specs.Room.{IsSameMap};
 ghost use Rattle.zv_map1.specs.Views.{insert_entry, keys_of, look_up};
 ghost use Rattle.zv_ule.specs.Search.{IsGap, compared};
 
@@ -61,7 +62,8 @@ impl<
         ensures same { IfOk result (λ o. IfSome o (λ p. (p.0.now ≡ key.now)
             × (p.1.now ≡ value.now))) }
         ensures kept { IfOk result (λ o. IfSome o (λ _. self.new ≡ self.old)) }
-        ensures err { IfErr result (IsLeftBy self.old self.new) }
+        ensures err { OnErr result (IsSameMap self.old self.new) }
+        ensures unchanged { IfErr result (λ e. (e ≡ MapError.Memory → ⊥) → self.new ≡ self.old) }
         ensures refused { TooLargeUnless
             (not (is_above K.cmp self.old.pairs (Q.bytes key.now)) || pair_fits
             (rule_of C.takes_insert D.takes_insert D.takes_replace) self.old.pairs
@@ -74,8 +76,7 @@ impl<
         Ok(None)
     }
 
-    /// Gives a key a value, at the end where the key is above all, and gives back the value that it
-    /// had.
+    /// Gives a key a value, at the end where the key is above all.
     fn put<Q: ZvOrdArg<K>, R: ZvArg<V>>(
         &mut self,
         alloc: Global,
@@ -84,9 +85,9 @@ impl<
     ) -> Result<Option<D::OwnedType>, MapError>
         requires key { length (Q.bytes key.now) < 2 ^ 64 }
         requires value { length (R.bytes value.now) < 2 ^ 64 }
-        ensures { Inserts D.OwnedType.bytes self.old self.new
-            (insert_entry K.cmp self.old.pairs (Q.bytes key.now) (R.bytes value.now))
-            (look_up K.cmp self.old.pairs (Q.bytes key.now))
+        ensures pairs { OnOk result (self.new.pairs ≡ insert_entry K.cmp self.old.pairs
+            (Q.bytes key.now) (R.bytes value.now)) }
+        ensures refused { TooLargeUnless
             (fits (rule_of C.takes_insert D.takes_insert D.takes_replace) K.cmp self.old.pairs
             (Q.bytes key.now) (R.bytes value.now)) result }
     {
@@ -148,7 +149,8 @@ impl<
             (Q.bytes key.now) (E.spelling value.now)) }
         ensures before { IfOk result (λ old. option_map D.OwnedType.bytes old
             ≡ look_up K.cmp self.old.pairs (Q.bytes key.now)) }
-        ensures err { IfErr result (IsLeftBy self.old self.new) }
+        ensures err { OnErr result (IsSameMap self.old self.new) }
+        ensures unchanged { IfErr result (λ e. (e ≡ MapError.Memory → ⊥) → self.new ≡ self.old) }
         ensures refused { TooLargeUnless (E.fits value.now &&
             fits (rule_of C.takes_insert D.takes_insert D.takes_replace) K.cmp self.old.pairs
             (Q.bytes key.now) (E.spelling value.now)) result }

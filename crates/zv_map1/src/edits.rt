@@ -7,7 +7,7 @@ ghost use Rattle.zv_map.specs.Reserved.{IsTaken};
 ghost use Rattle.zv_map.specs.declared.error.MapError.{MapError};
 ghost use Rattle.zv_ule.specs.Search.{IsGap, compared};
 ghost use Rattle.zv_map1.specs.Fits.{fits, pair_fits, rule_of};
-ghost use Rattle.zv_map1.specs.Outcomes.{Inserts, IsLeftBy};
+ghost use Rattle.zv_map1.specs.Outcomes.{Inserts};
 ghost use Rattle.zv_map1.specs.Room.{CanGrowBy, IsOwned, IsSameMap};
 ghost use Rattle.zv_map1.specs.Views.{insert_entry, keys_of, look_up, nth, set_value_at, values_of};
 ghost use Rattle.zv_map1.specs.Views.{without_key};
@@ -144,7 +144,8 @@ impl<
             (Q.bytes key.now) (R.bytes value.now)) }
         ensures before { IfOk result (λ old. option_map D.OwnedType.bytes old
             ≡ look_up K.cmp self.old.pairs (Q.bytes key.now)) }
-        ensures err { IfErr result (IsLeftBy self.old self.new) }
+        ensures err { OnErr result (IsSameMap self.old self.new) }
+        ensures unchanged { IfErr result (λ e. (e ≡ MapError.Memory → ⊥) → self.new ≡ self.old) }
         ensures refused { TooLargeUnless
             (fits (rule_of C.takes_insert D.takes_insert D.takes_replace) K.cmp self.old.pairs
             (Q.bytes key.now) (R.bytes value.now)) result }

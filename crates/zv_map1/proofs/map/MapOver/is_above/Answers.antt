@@ -28,7 +28,7 @@ pub returns-in-Some-clause-gap : goal.returns-in-Some-clause-gap
 returns-in-Some-clause-gap g c = λ yes.
     gap_at_end g.met.K.ZvOrd.total c.args.self.now.pairs (g.Q.ZvArg.bytes c.args.key.now)
     (subst (λ (m : Map1). IsMap g.K.ZvOrd.cmp m.pairs) c.self.view_is (ascend g.met.K.ZvOrd.total c.self.invariant))
-    (sym (returns-in-Some-clause-above g c) ∙ is_true yes) (length c.args.self.now.pairs) refl
+    (sym (returns-in-Some-clause-above g c) ∙ yes) (length c.args.self.now.pairs) refl
 
 pub returns-in-None-clause-gap : goal.returns-in-None-clause-gap
 returns-in-None-clause-gap g c = λ yes.

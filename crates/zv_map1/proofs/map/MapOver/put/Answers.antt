@@ -15,6 +15,7 @@ add-requires g c κs =
 pub returns-then-is_above : goal.returns-then-is_above
 returns-then-is_above g c =
     let yes : c.is_above.result ≡ true = cc in
-    inserts_gap g.met.K.ZvOrd.total (rule_of g.C.ZvContainer.takes_insert g.D.ZvContainer.takes_insert g.D.ZvContainer.takes_replace)
+    let said = inserts_gap g.met.K.ZvOrd.total (rule_of g.C.ZvContainer.takes_insert g.D.ZvContainer.takes_insert g.D.ZvContainer.takes_replace)
     c.args.self.now c.add.new.self (g.Q.ZvArg.bytes c.args.key.now) (g.R.ZvArg.bytes c.args.value.now) (length c.args.self.now.pairs)
-    (c.is_above.ensures.gap yes) c.add.ensures
+    (c.is_above.ensures.gap yes) c.add.ensures in
+    record { pairs = said.pairs; refused = said.refused }
