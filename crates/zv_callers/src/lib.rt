@@ -1,4 +1,5 @@
 //! Callers of the crates with contracts of their own, as a crate over them has.
 #![tactic(auto)]
 
+pub mod names;
 pub mod regions;

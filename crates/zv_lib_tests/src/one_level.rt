@@ -79,8 +79,16 @@ fn asks_names(rt: &impl Abort, map: ZeroMapBorrowed<'_, u32, StrULE>) {
         map.get_by(|key| key.cmp(&[2, 0, 0, 0].as_slice()))
             .is_some_and(|value| value.as_str() == "y")
     );
-    assert!(rt; map.iter_keys().next_back().is_some_and(|key| key.value() == 7));
-    assert!(rt; map.iter_values().next_back().is_some_and(|value| value.as_str() == "z"));
+    assert!(rt;
+        map.iter_keys()
+            .next_back()
+            .is_some_and(|key| key.value() == 7)
+    );
+    assert!(rt;
+        map.iter_values()
+            .next_back()
+            .is_some_and(|value| value.as_str() == "z")
+    );
 }
 
 #[test]
@@ -103,6 +111,7 @@ fn parse<'a, C: MutableZeroVecLike<'a, u32> + Drop, D: MutableZeroVecLike<'a, St
 
 // The keys 1 and 2, and their names.
 const KEYS: &[u8] = &[1, 0, 0, 0, 2, 0, 0, 0];
+
 const NAMES: &[u8] = b"\x02\0\x03\0unodos";
 
 #[test]

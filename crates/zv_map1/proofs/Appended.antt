@@ -1,5 +1,6 @@
 -- A key that is above all keys of a map, and a pair at the end.
-use Rattle.std.proofs.Common.{◌≡◌, ℕ, zero, suc, ◌-◌, ◌<◌, ◌≤◌, ◌⊎◌, Bool, true, false, cond, List, [], ◌∷◌, ◌++◌, length, Option, Some, None, inl, inr, refl, sym, ◌∙◌, ap, subst, arith}
+use Rattle.std.proofs.Common.{◌≡◌, ℕ, zero, suc, ◌-◌, ◌<◌, ◌≤◌, ◌⊎◌, Bool, true, false, cond, List, [], ◌∷◌, ◌++◌, length, Option, Some, None, inl, inr}
+use Rattle.std.proofs.Common.{refl, sym, ◌∙◌, ap, subst, arith}
 use Rattle.std.proofs.Math.Nat.{eq-or-lt_of_le}
 use Rattle.std.proofs.lemmas.List.{length-map}
 use Rattle.std.proofs.lemmas.List.Edits.{insert_end}
@@ -29,7 +30,8 @@ greater_of Greater = refl
 
 module _ {order : Order} (total : IsTotalOrder order) (m : Pairs) (k : Bytes) where
   -- the answer of one comparison with the last key
-  pub above_last : (ks : List Bytes) (n : ℕ) (last : Bytes) → keys_of m ≡ ks → n ≡ length m - 1 → Some last ≡ slice_get ks n → is_gt (order k last) ≡ is_above order m k
+  pub above_last : (ks : List Bytes) (n : ℕ) (last : Bytes) → keys_of m ≡ ks → n ≡ length m - 1 → Some last ≡ slice_get ks n →
+      is_gt (order k last) ≡ is_above order m k
   above_last ks n last p q e =
       let there : slice_get (keys_of m) (length m - 1) ≡ Some last = rw (p, ← q) (sym e) in
       let lower : is_gt (order k last) ≡ is_lt (order last k) = ap (λ (o : Ordering). is_gt o) (total.antisymm k last) ∙ greater_of (order last k) in

@@ -1,6 +1,6 @@
 -- Maps that are made by insertions, one after another, and the laws of maps.
-use Rattle.std.proofs.Common.{◌≡◌, ℕ, ◌+◌, ◌<◌, ◌&&◌, Bool, cond, List, [], ◌∷◌, ◌++◌, length, map, reverse, drop, get_or, Option, Some, None, refl, sym, ◌∙◌, ap}
-use Rattle.std.proofs.Common.{append_assoc}
+use Rattle.std.proofs.Common.{◌≡◌, ℕ, ◌+◌, ◌<◌, ◌&&◌, Bool, cond, List, [], ◌∷◌, ◌++◌, length, map, reverse, drop, get_or, Option, Some, None}
+use Rattle.std.proofs.Common.{append_assoc, refl, sym, ◌∙◌, ap}
 use Rattle.std.proofs.lemmas.Cmp.{tied_itself, eq_by_cmp_equiv}
 use Rattle.std.proofs.lemmas.List.{append-nil, drop_more, reverse-append}
 use Rattle.std.specs.Cmp.{IsTotalOrder}
@@ -10,15 +10,16 @@ use Rattle.zv_map.proofs.Places.{IsMap-insert_entry, IsMap-without_key, look_up-
 use Rattle.zv_map1.specs.Appends.{appended, is_above}
 use Rattle.zv_map1.specs.Building.{all_fit, insert_all, written}
 use Rattle.zv_map1.specs.Fits.{Rule, fits}
-use Rattle.zv_map1.specs.Laws.{AllIsMap, AppendInserts, FoundAlike, InsertIsFound, InsertLeavesOthers, IsElementOf, LastIsKept, RemoveIsGone, RemoveLeavesOthers}
+use Rattle.zv_map1.specs.Laws.{AllIsMap, AppendInserts, FoundAlike, InsertIsFound, InsertLeavesOthers, IsElementOf, LastIsKept, RemoveIsGone}
+use Rattle.zv_map1.specs.Laws.{RemoveLeavesOthers}
 use Rattle.zv_map1.specs.Views.{Bytes, IsMap, Order, Pairs, insert_entry, look_up, without_key}
 use Rattle.zv_map1.proofs.Appended.{appended_is, gap_at_end}
 use Rattle.zv_map1.proofs.Zipped.{none_ascends}
 
 -- ---- pairs that are left to be inserted
 
-module _ {A B : Type 0} (key : A → Bytes) (value : B → Bytes) (rule : Rule) (order : Order) (ps : List (A × B)) (i : ℕ) (p : A × B) (h : i < length ps)
-    (e : p ≡ get_or ps i p) (m : Pairs) where
+module _ {A B : Type 0} (key : A → Bytes) (value : B → Bytes) (rule : Rule) (order : Order) (ps : List (A × B)) (i : ℕ) (p : A × B)
+    (h : i < length ps) (e : p ≡ get_or ps i p) (m : Pairs) where
   -- one, and the others
   left_first : written key value (drop i ps) ≡ (key p.0, value p.1) ∷ written key value (drop (i + 1) ps)
   left_first = ap (written key value) (drop_more ps i p h)
@@ -29,7 +30,8 @@ module _ {A B : Type 0} (key : A → Bytes) (value : B → Bytes) (rule : Rule) 
   insert_first = ap (insert_all order m) left_first
 
   pub fit_first : all_fit rule order m (written key value (drop i ps))
-      ≡ (fits rule order m (key p.0) (value p.1) && all_fit rule order (insert_entry order m (key p.0) (value p.1)) (written key value (drop (i + 1) ps)))
+      ≡ (fits rule order m (key p.0) (value p.1)
+      && all_fit rule order (insert_entry order m (key p.0) (value p.1)) (written key value (drop (i + 1) ps)))
   fit_first = ap (all_fit rule order m) left_first
 
 -- ---- what is found in a map that was made so

@@ -36,7 +36,8 @@ pub inserts_as : {A : Type 0} {bytes : A → Bytes} {old new : Map1} {m z : Pair
     z ≡ m → w ≡ v → says ≡ takes → Inserts bytes old new m v takes r → Inserts bytes old new z w says r
 inserts_as a b c h = rw (a, b, c) h
 
-module _ {A : Type 0} {bytes : A → Bytes} {order : Order} (total : IsTotalOrder order) (rule : Rule) (old new : Map1) (k v : Bytes) {r : Result (Option A) MapError} (i : ℕ) where
+module _ {A : Type 0} {bytes : A → Bytes} {order : Order} (total : IsTotalOrder order) (rule : Rule) (old new : Map1) (k v : Bytes)
+    {r : Result (Option A) MapError} (i : ℕ) where
   -- at the place of a key, and where a key would go
   pub inserts_at : IsAt (compared order (keys_of old.pairs) k) i →
       Inserts bytes old new (set_value_at old.pairs i v) (Some (nth (values_of old.pairs) i)) (rule.replaces (values_of old.pairs) i (length v)) r →

@@ -40,7 +40,8 @@ zip_remove (k ∷ ks) (w ∷ vs) (suc i) = ap (λ r. (k, w) ∷ r) (zip_remove k
 
 -- ---- the lists of a map that is seen
 
-module _ {ks vs : List Bytes} {kv vv : Vector} {m : Map1} (view : record { pairs = zip ks vs; keys = kv; values = vv } ≡ m) (count : length vs ≡ length ks) where
+module _ {ks vs : List Bytes} {kv vv : Vector} {m : Map1} (view : record { pairs = zip ks vs; keys = kv; values = vv } ≡ m)
+    (count : length vs ≡ length ks) where
   pub keys_are : keys_of m.pairs ≡ ks
   keys_are = ap (λ (z : Map1). keys_of z.pairs) (sym view) ∙ firsts-zip ks vs count
 
@@ -55,12 +56,14 @@ module _ {ks vs : List Bytes} {kv vv : Vector} {m : Map1} (view : record { pairs
 
 -- ---- what a change leaves
 
-module _ {usable_keys usable_values : Bool} {order : Order} (total : IsTotalOrder order) {ks vs : List Bytes} (c : AreColumns usable_keys usable_values order ks vs) where
+module _ {usable_keys usable_values : Bool} {order : Order} (total : IsTotalOrder order) {ks vs : List Bytes}
+    (c : AreColumns usable_keys usable_values order ks vs) where
   pub ascend : IsMap order (zip ks vs)
   ascend = subst (IsStrictlySortedBy order) (sym (firsts-zip ks vs c.count)) c.ascending
 
   -- columns of a list of pairs that is a map
-  columns_of : (ks' vs' : List Bytes) (m : Pairs) → length vs' ≡ length ks' → zip ks' vs' ≡ m → IsMap order m → AreColumns usable_keys usable_values order ks' vs'
+  columns_of : (ks' vs' : List Bytes) (m : Pairs) → length vs' ≡ length ks' → zip ks' vs' ≡ m → IsMap order m →
+      AreColumns usable_keys usable_values order ks' vs'
   columns_of ks' vs' m count e up = record {
     keys = c.keys;
     values = c.values;
@@ -106,7 +109,8 @@ module _ {usable_keys usable_values : Bool} {order : Order} (total : IsTotalOrde
         ) in
         let at : IsAt (compared order (keys_of (zip ks vs)) (nth ks i)) i =
         subst (λ xs. IsAt (compared order xs (nth ks i)) i) (sym (firsts-zip ks vs c.count)) (own_place total ks c.ascending i h) in
-        columns_of ks' vs' _ even (pairs_without ∙ sym (without_key_at total (nth ks i) (zip ks vs) i at)) (IsMap-without_key total (zip ks vs) (nth ks i) ascend)
+        columns_of ks' vs' _ even (pairs_without ∙ sym (without_key_at total (nth ks i) (zip ks vs) i at))
+        (IsMap-without_key total (zip ks vs) (nth ks i) ascend)
 
   pub columns_set : (i : ℕ) (v : Bytes) (vs' : List Bytes) → vs' ≡ set vs i v → AreColumns usable_keys usable_values order ks vs'
   columns_set i v vs' q = record {

@@ -55,7 +55,8 @@ LastIsKept = (order : Order) → IsTotalOrder order → (ps : Pairs) (k : Bytes)
 
 -- what they make is a map
 abbrev pub AllIsMap : Type 0
-AllIsMap = (order : Order) → IsTotalOrder order → (ps : Pairs) → IsMap order (insert_all order [] ps)
+AllIsMap = (order : Order) → IsTotalOrder order → (ps : Pairs) →
+    IsMap order (insert_all order [] ps)
 
 -- a byte string that is an element, by the fault of its kind
 abbrev pub IsElementOf : (Bytes → Option UleError) → Bytes → Type 0

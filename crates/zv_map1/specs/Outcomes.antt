@@ -11,8 +11,8 @@ abbrev pub IsLeftBy : Map1 → Map1 → MapError → Type 0
 IsLeftBy old new TooLarge = new ≡ old
 IsLeftBy old new Memory = IsSameMap old new
 
--- done, it leaves the pairs m, and gives back the value v, if there is one; and it is refused unless
--- what is new fits
+-- done, it leaves the pairs m, and gives back the value v, if there is one; and it is refused
+-- unless what is new fits
 pub record Inserts {A : Type 0} (bytes : A → Bytes) (old new : Map1) (m : Pairs)
     (v : Option Bytes) (fits : Bool) (r : Result (Option A) MapError) : Type 0 where
   pub pairs : OnOk r (new.pairs ≡ m)

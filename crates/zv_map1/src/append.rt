@@ -1,6 +1,6 @@
 // Pairs that are put at the end of a map, and maps that are made of pairs in any order.
-ghost use Rattle.std.specs.Prelude.{◌≡◌, ◌^◌, ◌<◌, ◌&&◌, ◌||◌, [], length, not, IsTrue, IfErr, IfOk};
-ghost use Rattle.std.specs.Prelude.{IfSome, OnErr, OnOk, is_some, option_map};
+ghost use Rattle.std.specs.Prelude.{◌≡◌, ◌^◌, ◌<◌, ◌&&◌, ◌||◌, [], length, not, IsTrue, IfErr};
+ghost use Rattle.std.specs.Prelude.{IfOk, IfSome, OnErr, OnOk, is_some, option_map};
 ghost use Rattle.std.specs.List.{All};
 ghost use Rattle.zv_map.specs.Refusals.{TooLargeUnless};
 ghost use Rattle.zv_map.specs.declared.error.MapError.{MapError};
@@ -120,8 +120,8 @@ impl<
             (written A.bytes B.bytes pairs.now)) result }
     {
         let mut map = Self::new();
-        for (key, value) in pairs {
-            let _ = map.put(alloc, key, value)?;
+        for pair in pairs {
+            let _ = map.put(alloc, &pair.0, &pair.1)?;
         }
         Ok(map)
     }

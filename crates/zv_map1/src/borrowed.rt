@@ -2,7 +2,7 @@
 ghost use Rattle.std.specs.Prelude.{◌≡◌, ⊤, ℕ, ◌==◌, ◌-◌, ◌^◌, ◌<◌, ◌≤◌, ◌↔◌, IsTrue, [], length};
 ghost use Rattle.std.specs.Prelude.{map, zip};
 ghost use Rattle.std.specs.Prelude.{is_some, option_map};
-ghost use Rattle.std.specs.List.Sorted.{IsStrictlySortedBy};
+ghost use Rattle.std.specs.List.Sorted.{IsStrictlySortedBy, IsStrictlySortedBy-prop};
 ghost use Rattle.zv_map.specs.Views.{bytes_of, list_of};
 ghost use Rattle.zv_ule.specs.Search.{AtMostDigits};
 ghost use Rattle.zv_ule.specs.Views.{element_of};
@@ -23,7 +23,7 @@ pub struct ZeroMapBorrowed<'a, K: ZvOrd, V: ZvKind> {
     keys: KvSlice<'a, K>,
     values: KvSlice<'a, V>,
     pub ghost count: { length (list_of keys) ≡ length (list_of values) },
-    pub ghost ascending: { IsStrictlySortedBy K.cmp (list_of keys) } by { Rattle.std.specs.List.Sorted.IsStrictlySortedBy-prop _ _ },
+    pub ghost ascending: { IsStrictlySortedBy K.cmp (list_of keys) } by { IsStrictlySortedBy-prop _ _ },
 }
 
 impl<K: ZvOrd, V: ZvKind> Copy for ZeroMapBorrowed<'_, K, V> {}
@@ -232,7 +232,8 @@ impl<'a, K: AsULE + ZvOrd, V: AsULE> ZeroMapBorrowed<'a, K, V> {
     #[inline]
     pub fn iter_copied(self) -> ZeroMapCopied<'a, K, V>
         ensures { copied_left (λ b. K.loaded (K.ULE.value b)) (λ b. V.loaded (V.ULE.value b)) result
-            ≡ map (λ p. (K.loaded (K.ULE.value p.0), V.loaded (V.ULE.value p.1))) (pairs_of self.entry) }
+            ≡ map (λ p. (K.loaded (K.ULE.value p.0), V.loaded (V.ULE.value p.1)))
+            (pairs_of self.entry) }
     {
         self.iter().copied()
     }

@@ -4,7 +4,8 @@ ghost use Rattle.zv_map1.specs.Laws.{InsertIsMap, InsertLeavesOthers, LastIsKept
 ghost use Rattle.zv_map1.specs.Laws.{RemoveIsMap, RemoveLeavesOthers};
 
 /// A map is a finite map: after an insertion the key has that value, after a removal it has none,
-/// any other key has what it had, and maps in which the same is found are the same. It does nothing.
+/// any other key has what it had, and maps in which the same is found are the same. It does
+/// nothing.
 pub fn finite_map()
     ensures insert { InsertIsFound }
     ensures insert_others { InsertLeavesOthers }

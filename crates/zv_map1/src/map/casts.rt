@@ -42,8 +42,8 @@ impl<'a, K: AsULE + ZvOrd, V: ZvKind, D: ZvContainer<V> + Drop> MapOver<K, V, Ze
         self,
     ) -> Result<MapOver<P, V, ZeroVec<'a, P>, D>, UleError>
         requires widths { P.ULE.width ≡ K.ULE.width }
-        requires ascending { chunks_fault P.ULE.TY P.ULE.width P.ULE.chunk_fault self.keys.bytes ≡ None →
-            IsMap P.cmp self.pairs }
+        requires ascending { chunks_fault P.ULE.TY P.ULE.width P.ULE.chunk_fault self.keys.bytes
+            ≡ None → IsMap P.cmp self.pairs }
         ensures error { result_err result
             ≡ chunks_fault P.ULE.TY P.ULE.width P.ULE.chunk_fault self.entry.keys.bytes }
         ensures pairs { IfOk result (λ m. m.pairs ≡ self.entry.pairs) }
