@@ -49,7 +49,7 @@ module _ {order : Order} (total : IsTotalOrder order) where
         ∙ ap (λ b. cond b (Some p.1) (look_up order m k)) ((eq_by_cmp_equiv total).symm p.0 k)
 
     reversed : (p : Bytes × Bytes) (ps m : Pairs) → reverse (p ∷ ps) ++ m ≡ reverse ps ++ (p ∷ m)
-    reversed p ps m = ap (λ xs. xs ++ m) (reverse-append (p ∷ []) ps) ∙ append_assoc
+    reversed p ps m = ap (λ xs. xs ++ m) (reverse-append (p ∷ []) ps) ∙ append_assoc (reverse ps) (p ∷ []) m
 
     last_found : (ps m : Pairs) → look_up order (insert_all order m ps) k ≡ look_up order (reverse ps ++ m) k
     last_found [] m = refl

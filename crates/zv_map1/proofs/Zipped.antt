@@ -40,19 +40,29 @@ zip_remove (k ∷ ks) (w ∷ vs) (suc i) = ap (λ r. (k, w) ∷ r) (zip_remove k
 
 -- ---- the lists of a map that is seen
 
-module _ {ks vs : List Bytes} {kv vv : Vector} {m : Map1} (view : record { pairs = zip ks vs; keys = kv; values = vv } ≡ m)
-    (count : length vs ≡ length ks) where
+module _ {usable_keys usable_values : Bool} {order : Order} {ks vs : List Bytes} {kv vv : Vector} {m : Map1}
+    (view : record { pairs = zip ks vs; keys = kv; values = vv } ≡ m) (c : AreColumns usable_keys usable_values order ks vs) where
   pub keys_are : keys_of m.pairs ≡ ks
-  keys_are = ap (λ (z : Map1). keys_of z.pairs) (sym view) ∙ firsts-zip ks vs count
+  keys_are = ap (λ (z : Map1). keys_of z.pairs) (sym view) ∙ firsts-zip ks vs c.count
 
   pub values_are : values_of m.pairs ≡ vs
-  values_are = ap (λ (z : Map1). values_of z.pairs) (sym view) ∙ seconds-zip ks vs count
+  values_are = ap (λ (z : Map1). values_of z.pairs) (sym view) ∙ seconds-zip ks vs c.count
 
   pub count_is : length m.pairs ≡ length ks
-  count_is = omega (arith, ap (λ (z : Map1). length z.pairs) (sym view), length-zip ks vs, count)
+  count_is = omega (arith, ap (λ (z : Map1). length z.pairs) (sym view), length-zip ks vs, c.count)
 
   pub values_count_is : length m.pairs ≡ length vs
-  values_count_is = omega (arith, count_is, count)
+  values_count_is = omega (arith, count_is, c.count)
+
+  -- the keys as those of another kind, by whose order they ascend too
+  pub columns_as : {usable' : Bool} {order' : Order} {ks' : List Bytes} → IsTrue usable' → ks' ≡ ks → IsMap order' m.pairs →
+      AreColumns usable' usable_values order' ks' vs
+  columns_as {order' = order'} usable e up = record {
+    keys = usable;
+    values = c.values;
+    count = omega (arith, ap length e, c.count);
+    ascending = subst (IsStrictlySortedBy order') (keys_are ∙ sym e) up;
+  }
 
 -- ---- what a change leaves
 
@@ -125,7 +135,7 @@ module _ {usable_keys usable_values : Bool} {order : Order} (total : IsTotalOrde
     pub pairs_inserted : (k v : Bytes) → IsGap (compared order (keys_of m.pairs) k) i → (ks' vs' : List Bytes) → ks' ≡ insert ks i k → vs' ≡ insert vs i v →
         zip ks' vs' ≡ insert_entry order m.pairs k v
     pairs_inserted k v gap ks' vs' p q =
-        let at : IsGap (compared order ks k) i = subst (λ xs. IsGap (compared order xs k) i) (keys_are view c.count) gap in
+        let at : IsGap (compared order ks k) i = subst (λ xs. IsGap (compared order xs k) i) (keys_are view c) gap in
         pairs_with i k v at ks' vs' p q ∙ ap (λ (z : Map1). insert_entry order z.pairs k v) view
 
     pub pairs_removed : i < length ks → (ks' vs' : List Bytes) → ks' ≡ remove ks i → vs' ≡ remove vs i → zip ks' vs' ≡ remove m.pairs i
@@ -142,7 +152,7 @@ pub none_ascends : (order : Order) (ks : List Bytes) → ks ≡ [] → IsStrictl
 unfolding IsStrictlySortedBy
 none_ascends order ks e = subst (IsStrictlySortedBy order) (sym e) tt
 
-module _ {usable_keys usable_values : Bool} {order : Order} {ks vs ks' vs' : List Bytes} where
+module _ {usable_keys usable_values : Bool} {order : Order} {ks' vs' : List Bytes} where
   pub no_columns : IsTrue usable_keys → IsTrue usable_values → ks' ≡ [] → vs' ≡ [] → AreColumns usable_keys usable_values order ks' vs'
   no_columns a b p q = record {
     keys = a;
@@ -151,5 +161,18 @@ module _ {usable_keys usable_values : Bool} {order : Order} {ks vs ks' vs' : Lis
     ascending = none_ascends order ks' p;
   }
 
+module _ {usable_keys usable_values : Bool} {order : Order} {ks vs ks' vs' : List Bytes} where
   pub same_columns : ks' ≡ ks → vs' ≡ vs → AreColumns usable_keys usable_values order ks vs → AreColumns usable_keys usable_values order ks' vs'
   same_columns p q c = rw (p, q) c
+
+-- ---- pairs that are the same
+
+module _ (ks vs ks' vs' : List Bytes) (count : length vs ≡ length ks) (count' : length vs' ≡ length ks') where
+  pub zip_same : ks ≡ ks' → vs ≡ vs' → zip ks vs ≡ zip ks' vs'
+  zip_same p q = rw (p, q) refl
+
+  pub keys_same : zip ks vs ≡ zip ks' vs' → ks ≡ ks'
+  keys_same e = sym (firsts-zip ks vs count) ∙ (ap keys_of e ∙ firsts-zip ks' vs' count')
+
+  pub values_same : zip ks vs ≡ zip ks' vs' → vs ≡ vs'
+  values_same e = sym (seconds-zip ks vs count) ∙ (ap values_of e ∙ seconds-zip ks' vs' count')

@@ -4,7 +4,9 @@ ghost use Rattle.std.specs.Prelude.{map, zip};
 ghost use Rattle.std.specs.Prelude.{is_some, option_map};
 ghost use Rattle.std.specs.List.Sorted.{IsStrictlySortedBy, IsStrictlySortedBy-prop};
 ghost use Rattle.zv_map.specs.Views.{bytes_of, list_of};
-ghost use Rattle.zv_ule.specs.Search.{AtMostDigits};
+ghost use Rattle.std.specs.Result.{MatchResult};
+ghost use Rattle.zv_map.specs.Maps.{IsAt};
+ghost use Rattle.zv_ule.specs.Search.{AtMostDigits, IsGap, compared};
 ghost use Rattle.zv_ule.specs.Views.{element_of};
 
 use crate::search::{place_of, place_of_counted};
@@ -104,13 +106,39 @@ impl<'a, K: ZvOrd, V: ZvKind> ZeroMapBorrowed<'a, K, V> {
         self.values
     }
 
+    /// The place of the key, or where it would go.
+    fn place<Q: ZvOrdArg<K>>(self, key: &Q) -> Result<usize, usize>
+        requires { length (Q.bytes key.now) < 2 ^ 64 }
+        ensures { MatchResult result
+            (IsAt (compared K.cmp (keys_of (pairs_of self.entry)) (Q.bytes key.now)))
+            (IsGap (compared K.cmp (keys_of (pairs_of self.entry)) (Q.bytes key.now))) }
+    {
+        place_of(&self.keys, key)
+    }
+
+    /// The same, with each comparison counted as a step.
+    fn place_counted<Q: ZvOrdArg<K>, L: Ledger>(
+        self,
+        key: &Q,
+        steps: &mut Steps<L>,
+    ) -> Result<usize, usize>
+        requires { length (Q.bytes key.now) < 2 ^ 64 }
+        ensures place { MatchResult result
+            (IsAt (compared K.cmp (keys_of (pairs_of self.entry)) (Q.bytes key.now)))
+            (IsGap (compared K.cmp (keys_of (pairs_of self.entry)) (Q.bytes key.now))) }
+        ensures digits { AtMostDigits (steps.new - steps.old) (length (pairs_of self.entry)) }
+        ensures counted { steps.old ≤ steps.new }
+    {
+        place_of_counted(&self.keys, key, steps)
+    }
+
     /// The value of the key, if there is one. It is one search, and takes no memory.
     pub fn get<Q: ZvOrdArg<K>>(self, key: &Q) -> Option<VarRef<'a, V>>
         requires { length (Q.bytes key.now) < 2 ^ 64 }
         ensures { option_map element_of result
             ≡ look_up K.cmp (pairs_of self.entry) (Q.bytes key.now) }
     {
-        let Ok(at) = place_of(&self.keys, key) else {
+        let Ok(at) = self.place(key) else {
             return None;
         };
         self.values.get(at)
@@ -129,7 +157,7 @@ impl<'a, K: ZvOrd, V: ZvKind> ZeroMapBorrowed<'a, K, V> {
         ensures digits { AtMostDigits (steps.new - steps.old) (length (pairs_of self.entry)) }
         ensures counted { steps.old ≤ steps.new }
     {
-        let Ok(at) = place_of_counted(&self.keys, key, steps) else {
+        let Ok(at) = self.place_counted(key, steps) else {
             return None;
         };
         self.values.get(at)

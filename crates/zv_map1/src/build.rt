@@ -30,8 +30,7 @@ impl<K: ZvOrd, V: ZvKind, C: ZvContainer<K> + Drop, D: ZvContainer<V> + Drop> Ma
         ensures owned { IfOk result (λ m. (m.keys.owned ≡ C.owned keys)
             × (m.values.owned ≡ D.owned values)) }
     {
-        let _usable = (keys.zvl_as_borrowed(), values.zvl_as_borrowed());
-        if keys.zvl_len() != values.zvl_len() {
+        if keys.zvl_as_borrowed().len() != values.zvl_as_borrowed().len() {
             return Err(VecsError::Count);
         }
         if !keys.zvl_is_ascending() {

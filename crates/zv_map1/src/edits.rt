@@ -40,13 +40,22 @@ impl<
         self.values.zvl_reserve_bytes(alloc, values)
     }
 
-    /// Makes room for a pair whose key and value have these lengths.
-    fn reserve_pair(&mut self, alloc: Global, key: usize, value: usize) -> Result<(), NoMemory>
+    /// Makes room for a new pair.
+    fn reserve_pair<Q: ZvArg<K>, R: ZvArg<V>>(
+        &mut self,
+        alloc: Global,
+        key: &Q,
+        value: &R,
+    ) -> Result<(), NoMemory>
+        requires key { length (Q.bytes key.now) < 2 ^ 64 }
+        requires value { length (R.bytes value.now) < 2 ^ 64 }
         ensures same { IsSameMap self.old self.new }
-        ensures ok { OnOk result (CanGrowBy (key + C.field) (value + D.field) self.new) }
+        ensures ok { OnOk result (CanGrowBy (length (Q.bytes key.now) + C.field)
+            (length (R.bytes value.now) + D.field) self.new) }
     {
-        let keys = key.checked_add(self.keys.zvl_field()).ok_or(NoMemory)?;
-        let values = value.checked_add(self.values.zvl_field()).ok_or(NoMemory)?;
+        let (key_field, value_field) = (self.keys.zvl_field(), self.values.zvl_field());
+        let keys = key.arg_len().checked_add(key_field).ok_or(NoMemory)?;
+        let values = value.arg_len().checked_add(value_field).ok_or(NoMemory)?;
         self.reserve_bytes(alloc, keys, values)
     }
 
@@ -97,7 +106,7 @@ impl<
         if !self.takes_pair(key, value) {
             return Err(MapError::TooLarge);
         }
-        self.reserve_pair(alloc, key.arg_len(), value.arg_len())?;
+        self.reserve_pair(alloc, key, value)?;
         self.add_reserved(at, key, value);
         Ok(None)
     }

@@ -38,8 +38,8 @@ pub(crate) fn place_of_counted<K: ZvOrd, C: ZeroVecLike<K>, Q: ZvOrdArg<K>, L: L
     ensures digits { AtMostDigits (steps.new - steps.old) (length (C.list keys.now)) }
     ensures counted { steps.old ≤ steps.new }
 {
-    match keys.zvl_search_counted(key, 0..keys.zvl_len(), steps) {
-        Some(place) => place,
-        None => unreachable!(),
-    }
+    let Some(place) = keys.zvl_search_counted(key, 0..keys.zvl_len(), steps) else {
+        unreachable!();
+    };
+    place
 }

@@ -11,5 +11,5 @@ returns-in_default g c = sym (look_up_gap g.met.K.ZvOrd.total (g.Q.ZvArg.bytes c
 pub returns : goal.returns
 returns g c =
     c.zvl_get.ensures
-    ∙ (ap (λ (xs : List Bytes). slice_get xs c.in-Ok.at) (sym (values_are c.self.view_is c.self.invariant.count))
+    ∙ (ap (λ (xs : List Bytes). slice_get xs c.in-Ok.at) (sym (values_are c.self.view_is c.self.invariant))
     ∙ sym (look_up_at g.met.K.ZvOrd.total (g.Q.ZvArg.bytes c.args.key.now) c.args.self.now.pairs c.in-Ok.at c.in-Ok.ensures))

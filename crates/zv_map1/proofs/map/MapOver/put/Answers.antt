@@ -10,7 +10,7 @@ add-requires g c κs =
     let k = g.Q.ZvArg.bytes c.args.key.now in
     let yes : c.is_above.result ≡ true = cc in
     let gap = subst (IsGap (compared g.K.ZvOrd.cmp (keys_of c.args.self.now.pairs) k)) (sym c.len.ensures) (c.is_above.ensures.gap yes) in
-    ((refl, tt), (c.requires.key, c.requires.value, gap))
+    ((refl, tt), (c.requires.key, (c.requires.value, gap)))
 
 pub returns-then-is_above : goal.returns-then-is_above
 returns-then-is_above g c =
