@@ -9,7 +9,7 @@ use Rattle.std.specs.List.Sorted.{IsStrictlySortedBy}
 use Rattle.zv_ule.specs.Search.{IsGap, compared}
 use Rattle.zv_map.specs.Maps.{IsAt}
 use Rattle.zv_map.proofs.Places.{IsMap-insert_entry, IsMap-without_key, insert_entry_gap, own_place, without_key_at}
-use Rattle.zv_map1.specs.Views.{AreColumns, Bytes, IsMap, Map1, Order, Pairs, Vector, insert_entry, keys_of, nth, set_value_at, values_of, without_key}
+use Rattle.zv_map1.specs.Views.{AreColumns, Bytes, IsMap, Map1, Order, Pairs, Vector, insert_entry, keys_of, nth, set_value_at, values_of}
 
 -- ---- changes of both lists
 

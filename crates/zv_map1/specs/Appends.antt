@@ -1,5 +1,5 @@
 -- Pairs that are put at the end of a map.
-use Rattle.std.specs.Prelude.{ℕ, ◌-◌, Bool, true, cond, List, [], ◌∷◌, ◌++◌, length, slice_get}
+use Rattle.std.specs.Prelude.{◌-◌, Bool, true, cond, [], ◌∷◌, ◌++◌, length, slice_get}
 use Rattle.std.specs.Option.{option_map_or}
 use Rattle.std.specs.Ordering.{is_lt}
 use Rattle.zv_map1.specs.Views.{Bytes, Order, Pairs, keys_of}

@@ -1,5 +1,5 @@
 -- A map that is made of pairs in any order, or of two vectors.
-use Rattle.std.specs.Prelude.{◌≡◌, ℕ, ◌==◌, Bool, true, false, ◌&&◌, cond, List, [], ◌∷◌, length}
+use Rattle.std.specs.Prelude.{◌≡◌, ◌==◌, Bool, true, false, ◌&&◌, cond, List, [], ◌∷◌, length}
 use Rattle.std.specs.Prelude.{map, Option, Some, None, Result, Ok, Err, ⊤}
 use Rattle.std.specs.List.{fold}
 use Rattle.zv_map.specs.Keys.{ascends}

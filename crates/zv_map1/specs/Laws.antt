@@ -1,6 +1,6 @@
 -- The laws of maps: what is found after a change, and in a map that is made of pairs in any order.
 -- Keys are one key where they compare Equal.
-use Rattle.std.specs.Prelude.{◌≡◌, false, List, [], reverse, Option, Some, None, true}
+use Rattle.std.specs.Prelude.{◌≡◌, false, [], reverse, Option, Some, None, true}
 use Rattle.std.specs.Cmp.{IsTotalOrder}
 use Rattle.std.specs.List.{AllByRecursion}
 use Rattle.std.specs.Ordering.{is_eq}

@@ -1,5 +1,5 @@
 -- The room that a change of a map needs, and what a change leaves of a map.
-use Rattle.std.specs.Prelude.{◌≡◌, ℕ, ◌+◌, ◌≤◌, true}
+use Rattle.std.specs.Prelude.{◌≡◌, ℕ, ◌≤◌, true}
 use Rattle.zv_map.specs.Vectors.{CanGrow, KeepsItsRoom}
 use Rattle.zv_map1.specs.Views.{Map1, Vector}
 

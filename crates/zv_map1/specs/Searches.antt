@@ -1,5 +1,5 @@
 -- What a look-up by a predicate gives.
-use Rattle.std.specs.Prelude.{◌≡◌, ℕ, List, length, map, Option, None, option_map, Result}
+use Rattle.std.specs.Prelude.{◌≡◌, ℕ, length, map, Option, None, option_map, Result}
 use Rattle.std.specs.Prelude.{Ok, Err, slice_get}
 use Rattle.std.specs.Fn.{Mut, ComputesKey}
 use Rattle.std.specs.List.Sorted.{IsSearchInRange}

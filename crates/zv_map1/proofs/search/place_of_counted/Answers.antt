@@ -1,4 +1,4 @@
-use Rattle.std.proofs.Common.{◌≡◌, ◌∙◌, List, length, slice_range, sym, subst}
+use Rattle.std.proofs.Common.{◌≡◌, ◌∙◌, List, slice_range, sym, subst}
 use Rattle.std.proofs.lemmas.List.{length-map}
 use Rattle.std.specs.declared.cmp.Ordering.{Ordering}
 use Rattle.zv_map.proofs.Places.{placed}

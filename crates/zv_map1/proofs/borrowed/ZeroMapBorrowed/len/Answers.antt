@@ -1,4 +1,4 @@
-use Rattle.std.proofs.Common.{length, arith}
+use Rattle.std.proofs.Common.{arith}
 use Rattle.std.proofs.lemmas.Slice.Zip.{length-zip}
 use Rattle.zv_map.specs.Views.{list_of}
 use Rattle.zv_map1.proofs.borrowed.ZeroMapBorrowed.len.Goals as goal

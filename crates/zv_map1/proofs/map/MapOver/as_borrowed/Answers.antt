@@ -1,4 +1,4 @@
-use Rattle.std.proofs.Common.{◌∙◌, sym, ap, subst, zip, length, arith}
+use Rattle.std.proofs.Common.{◌∙◌, sym, ap, subst, length, arith}
 use Rattle.std.specs.List.Sorted.{IsStrictlySortedBy}
 use Rattle.zv_map1.specs.Views.{Map1}
 use Rattle.zv_map1.proofs.map.MapOver.as_borrowed.Goals as goal

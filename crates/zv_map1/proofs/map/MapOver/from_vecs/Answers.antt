@@ -1,4 +1,4 @@
-use Rattle.std.proofs.Common.{◌∙◌, length, sym, ap, arith}
+use Rattle.std.proofs.Common.{length, sym, ap, arith}
 use Rattle.zv_map.proofs.Ascents.{sorted_from_ascends}
 use Rattle.zv_map1.proofs.map.MapOver.from_vecs.Goals as goal
 
@@ -13,5 +13,5 @@ invariant_of-result g c = record {
     ap length c.zvl_as_borrowed.ensures.list,
     ap length c.zvl_as_borrowed-2.ensures.list,
   );
-  ascending = sorted_from_ascends g.met.K.ZvOrd.total (g.C.ZeroVecLike.list c.args.keys) ?;
+  ascending = sorted_from_ascends g.met.K.ZvOrd.total (g.C.ZeroVecLike.list c.args.keys) (sym c.if-not-zvl_is_ascending.ensures);
 }

@@ -1,6 +1,6 @@
 use Rattle.std.proofs.Common.{refl}
 use Rattle.zv_map.proofs.Places.{at_within}
-use Rattle.zv_map1.specs.Fits.{Rule, rule_of}
+use Rattle.zv_map1.specs.Fits.{rule_of}
 use Rattle.zv_map1.proofs.Found.{inserts_at, inserts_gap}
 use Rattle.zv_map1.proofs.Left.{same_after, unchanged_after}
 use Rattle.zv_map1.proofs.map.MapOver.insert.Goals as goal

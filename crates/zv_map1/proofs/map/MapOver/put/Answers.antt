@@ -1,6 +1,6 @@
 use Rattle.std.proofs.Common.{◌≡◌, length, true, refl, sym, subst}
 use Rattle.zv_ule.specs.Search.{IsGap, compared}
-use Rattle.zv_map1.specs.Fits.{Rule, rule_of}
+use Rattle.zv_map1.specs.Fits.{rule_of}
 use Rattle.zv_map1.specs.Views.{keys_of}
 use Rattle.zv_map1.proofs.Found.{inserts_gap}
 use Rattle.zv_map1.proofs.map.MapOver.put.Goals as goal

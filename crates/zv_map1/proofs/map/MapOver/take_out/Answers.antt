@@ -1,4 +1,4 @@
-use Rattle.std.proofs.Common.{◌<◌, ◌∙◌, List, length, sym, ap, arith}
+use Rattle.std.proofs.Common.{◌∙◌, List, sym, ap, arith}
 use Rattle.zv_map1.specs.Views.{Bytes, nth}
 use Rattle.zv_map1.proofs.Zipped.{values_are, values_count_is}
 use Rattle.zv_map1.proofs.map.MapOver.take_out.Goals as goal

@@ -1,4 +1,4 @@
-use Rattle.std.proofs.Common.{◌∙◌, ℕ, List, sym, ap}
+use Rattle.std.proofs.Common.{◌∙◌, ℕ, sym, ap}
 use Rattle.zv_ule.specs.Chunks.{chunks_fault, chunks_of}
 use Rattle.zv_ule.specs.Fixed.{is_width}
 use Rattle.zv_map1.specs.Views.{Map1}
