@@ -12,9 +12,9 @@ use zv_ule::{Steps, StrULE, ZvArg, ZvOrdArg};
 
 // A text that counts how often it is compared.
 #[derive(Drop)]
-struct CountingKey<'c> {
-    text: &'c str,
-    count: &'c Cell<usize>,
+pub(crate) struct CountingKey<'c> {
+    pub(crate) text: &'c str,
+    pub(crate) count: &'c Cell<usize>,
 }
 
 impl ZvArg<StrULE> for CountingKey<'_> {

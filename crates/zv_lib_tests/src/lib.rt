@@ -20,6 +20,10 @@ mod maps;
 #[cfg(test)]
 mod nested;
 #[cfg(test)]
+mod one_level;
+#[cfg(test)]
+mod permutation;
+#[cfg(test)]
 mod splices;
 #[cfg(test)]
 mod vectors;

@@ -1,0 +1,5 @@
+pub mod Appended
+pub mod Building
+pub mod Found
+pub mod Left
+pub mod Zipped

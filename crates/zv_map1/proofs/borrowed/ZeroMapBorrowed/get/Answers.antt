@@ -1,0 +1,19 @@
+use Rattle.std.proofs.Common.{◌∙◌, sym, ap, List}
+use Rattle.std.proofs.lemmas.Slice.Zip.{seconds-zip}
+use Rattle.std.specs.List.{slice_get}
+use Rattle.zv_map.proofs.Places.{look_up_at, look_up_gap}
+use Rattle.zv_map.specs.Views.{list_of}
+use Rattle.zv_map1.specs.Borrowed.{pairs_of}
+use Rattle.zv_map1.specs.Views.{Bytes}
+use Rattle.zv_map1.proofs.borrowed.ZeroMapBorrowed.get.Goals as goal
+
+pub returns-in_default : goal.returns-in_default
+returns-in_default g c =
+    sym (look_up_gap g.met.K.ZvOrd.total (g.Q.ZvArg.bytes c.args.key.now) (pairs_of c.args.self) c.in_default.field-0 c.in_default.ensures)
+
+pub returns : goal.returns
+returns g c =
+    let b = c.args.self in
+    c.get.ensures
+    ∙ (ap (λ (xs : List Bytes). slice_get xs c.in-Ok.at) (sym (seconds-zip (list_of b.keys) (list_of b.values) (sym b.count)))
+    ∙ sym (look_up_at g.met.K.ZvOrd.total (g.Q.ZvArg.bytes c.args.key.now) (pairs_of b) c.in-Ok.at c.in-Ok.ensures))

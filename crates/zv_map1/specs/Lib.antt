@@ -1,0 +1,9 @@
+pub mod Appends
+pub mod Borrowed
+pub mod Building
+pub mod Fits
+pub mod Laws
+pub mod Outcomes
+pub mod Room
+pub mod Searches
+pub mod Views

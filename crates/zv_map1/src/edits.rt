@@ -1,0 +1,226 @@
+// Changes of a map's two vectors.
+ghost use Rattle.std.specs.Prelude.{◌≡◌, ◌+◌, ◌^◌, ◌<◌, ◌≤◌, ◌&&◌, ◌||◌, IfErr, IfOk, OnErr, OnOk};
+ghost use Rattle.std.specs.Prelude.{None, Some, length, option_map};
+ghost use Rattle.std.specs.List.{remove};
+ghost use Rattle.zv_map.specs.Refusals.{TooLargeUnless};
+ghost use Rattle.zv_map.specs.Reserved.{IsTaken};
+ghost use Rattle.zv_map.specs.declared.error.MapError.{MapError};
+ghost use Rattle.zv_ule.specs.Search.{IsGap, compared};
+ghost use Rattle.zv_map1.specs.Fits.{fits, pair_fits, rule_of};
+ghost use Rattle.zv_map1.specs.Outcomes.{Inserts};
+ghost use Rattle.zv_map1.specs.Room.{CanGrowBy, IsOwned, IsSameMap};
+ghost use Rattle.zv_map1.specs.Views.{insert_entry, keys_of, look_up, nth, set_value_at, values_of};
+ghost use Rattle.zv_map1.specs.Views.{without_key};
+
+use crate::map::MapOver;
+use std::alloc::Global;
+use zv_map::{MapError, MutableZeroVecLike};
+use zv_ule::{NoMemory, ZvArg, ZvKind, ZvOrd, ZvOrdArg};
+
+impl<
+    'a,
+    K: ZvOrd,
+    V: ZvKind,
+    C: MutableZeroVecLike<'a, K> + Drop,
+    D: MutableZeroVecLike<'a, V> + Drop,
+> MapOver<K, V, C, D> {
+    // ---- room
+
+    /// Makes both vectors own their bytes, with so many to spare.
+    pub(crate) fn reserve_bytes(
+        &mut self,
+        alloc: Global,
+        keys: usize,
+        values: usize,
+    ) -> Result<(), NoMemory>
+        ensures same { IsSameMap self.old self.new }
+        ensures ok { OnOk result (CanGrowBy keys values self.new) }
+    {
+        self.keys.zvl_reserve_bytes(alloc, keys)?;
+        self.values.zvl_reserve_bytes(alloc, values)
+    }
+
+    /// Makes room for a new pair.
+    fn reserve_pair<Q: ZvArg<K>, R: ZvArg<V>>(
+        &mut self,
+        alloc: Global,
+        key: &Q,
+        value: &R,
+    ) -> Result<(), NoMemory>
+        requires key { length (Q.bytes key.now) < 2 ^ 64 }
+        requires value { length (R.bytes value.now) < 2 ^ 64 }
+        ensures same { IsSameMap self.old self.new }
+        ensures ok { OnOk result (CanGrowBy (length (Q.bytes key.now) + C.field)
+            (length (R.bytes value.now) + D.field) self.new) }
+    {
+        let (key_field, value_field) = (self.keys.zvl_field(), self.values.zvl_field());
+        let keys = key.arg_len().checked_add(key_field).ok_or(NoMemory)?;
+        let values = value.arg_len().checked_add(value_field).ok_or(NoMemory)?;
+        self.reserve_bytes(alloc, keys, values)
+    }
+
+    // ---- new pairs
+
+    /// Whether a new pair's key and value are taken by their lists.
+    fn takes_pair<Q: ZvArg<K>, R: ZvArg<V>>(&self, key: &Q, value: &R) -> bool
+        requires key { length (Q.bytes key.now) < 2 ^ 64 }
+        requires value { length (R.bytes value.now) < 2 ^ 64 }
+        ensures { result ≡ pair_fits (rule_of C.takes_insert D.takes_insert D.takes_replace)
+            self.now.pairs (Q.bytes key.now) (R.bytes value.now) }
+    {
+        self.keys.zvl_takes_insert(key.arg_len()) && self.values.zvl_takes_insert(value.arg_len())
+    }
+
+    /// Puts a new pair, which is taken, at its place in room that was made.
+    fn add_reserved<Q: ZvArg<K>, R: ZvArg<V>>(&mut self, at: usize, key: &Q, value: &R)
+        requires key { length (Q.bytes key.now) < 2 ^ 64 }
+        requires value { length (R.bytes value.now) < 2 ^ 64 }
+        requires gap { IsGap (compared K.cmp (keys_of self.old.pairs) (Q.bytes key.now)) at }
+        requires taken { IsTaken (pair_fits (rule_of C.takes_insert D.takes_insert D.takes_replace)
+            self.old.pairs (Q.bytes key.now) (R.bytes value.now)) }
+        requires room { CanGrowBy (length (Q.bytes key.now) + C.field)
+            (length (R.bytes value.now) + D.field) self.old }
+        ensures { self.new.pairs ≡ insert_entry K.cmp self.old.pairs (Q.bytes key.now)
+            (R.bytes value.now) }
+    {
+        self.keys.zvl_insert_reserved(at, key);
+        self.values.zvl_insert_reserved(at, value);
+    }
+
+    /// Puts a new pair at its place. There is no value to give back.
+    pub(crate) fn add<Q: ZvArg<K>, R: ZvArg<V>>(
+        &mut self,
+        alloc: Global,
+        at: usize,
+        key: &Q,
+        value: &R,
+    ) -> Result<Option<D::OwnedType>, MapError>
+        requires key { length (Q.bytes key.now) < 2 ^ 64 }
+        requires value { length (R.bytes value.now) < 2 ^ 64 }
+        requires gap { IsGap (compared K.cmp (keys_of self.old.pairs) (Q.bytes key.now)) at }
+        ensures { Inserts D.OwnedType.bytes self.old self.new
+            (insert_entry K.cmp self.old.pairs (Q.bytes key.now) (R.bytes value.now)) None
+            (pair_fits (rule_of C.takes_insert D.takes_insert D.takes_replace) self.old.pairs
+            (Q.bytes key.now) (R.bytes value.now)) result }
+    {
+        if !self.takes_pair(key, value) {
+            return Err(MapError::TooLarge);
+        }
+        self.reserve_pair(alloc, key, value)?;
+        self.add_reserved(at, key, value);
+        Ok(None)
+    }
+
+    // ---- values of keys that are there
+
+    /// Gives the key at a place another value, and gives back the one that it had.
+    fn replace_value<R: ZvArg<V>>(
+        &mut self,
+        alloc: Global,
+        at: usize,
+        value: &R,
+    ) -> Result<Option<D::OwnedType>, MapError>
+        requires at { at < length self.old.pairs }
+        requires value { length (R.bytes value.now) < 2 ^ 64 }
+        ensures { Inserts D.OwnedType.bytes self.old self.new
+            (set_value_at self.old.pairs at (R.bytes value.now))
+            (Some (nth (values_of self.old.pairs) at))
+            (D.takes_replace (values_of self.old.pairs) at (length (R.bytes value.now))) result }
+    {
+        let old = self.values.zvl_replace(alloc, at, value)?;
+        Ok(Some(old))
+    }
+
+    /// Gives a key a value, and gives back the value that it had.
+    ///
+    /// # Errors
+    /// `TooLarge` where the value, or a key that is not there yet, is refused by the size rule of
+    /// its list. Nothing is changed then. `Memory` else: the pairs are the same, though the vectors
+    /// may have become the map's own.
+    ///
+    /// # Cost
+    /// One search. All memory is taken before the first change; each vector that changes then moves
+    /// what stands behind the place.
+    pub fn insert<Q: ZvOrdArg<K>, R: ZvArg<V>>(
+        &mut self,
+        alloc: Global,
+        key: &Q,
+        value: &R,
+    ) -> Result<Option<D::OwnedType>, MapError>
+        requires key { length (Q.bytes key.now) < 2 ^ 64 }
+        requires value { length (R.bytes value.now) < 2 ^ 64 }
+        ensures pairs { OnOk result (self.new.pairs ≡ insert_entry K.cmp self.old.pairs
+            (Q.bytes key.now) (R.bytes value.now)) }
+        ensures before { IfOk result (λ old. option_map D.OwnedType.bytes old
+            ≡ look_up K.cmp self.old.pairs (Q.bytes key.now)) }
+        ensures err { OnErr result (IsSameMap self.old self.new) }
+        ensures unchanged { IfErr result (λ e. (e ≡ MapError.Memory → ⊥) → self.new ≡ self.old) }
+        ensures refused { TooLargeUnless
+            (fits (rule_of C.takes_insert D.takes_insert D.takes_replace) K.cmp self.old.pairs
+            (Q.bytes key.now) (R.bytes value.now)) result }
+    {
+        match self.place(key) {
+            Ok(at) => self.replace_value(alloc, at, value),
+            Err(at) => self.add(alloc, at, key, value),
+        }
+    }
+
+    // ---- removals
+
+    /// Takes the pair at a place out of vectors that own their bytes.
+    fn remove_at(&mut self, at: usize)
+        requires at { at < length self.old.pairs }
+        requires owned { IsOwned self.old }
+        ensures { self.new.pairs ≡ remove self.old.pairs at }
+    {
+        self.keys.zvl_discard(at);
+        self.values.zvl_discard(at);
+    }
+
+    /// Makes both vectors own their bytes.
+    fn make_owned(&mut self, alloc: Global) -> Result<(), NoMemory>
+        ensures same { IsSameMap self.old self.new }
+        ensures owned { OnOk result (IsOwned self.new) }
+    {
+        self.reserve_bytes(alloc, 0, 0)
+    }
+
+    /// Takes the pair at a place out, and gives back its value.
+    fn take_out(&mut self, alloc: Global, at: usize) -> Result<D::OwnedType, NoMemory>
+        requires { at < length self.old.pairs }
+        ensures pairs { OnOk result (self.new.pairs ≡ remove self.old.pairs at) }
+        ensures before { IfOk result (λ old. D.OwnedType.bytes old
+            ≡ nth (values_of self.old.pairs) at) }
+        ensures err { OnErr result (IsSameMap self.old self.new) }
+    {
+        let old = self.values.zvl_get_owned(alloc, at)?;
+        self.make_owned(alloc)?;
+        self.remove_at(at);
+        Ok(old)
+    }
+
+    /// Takes a key out, and gives back the value that it had. After `NoMemory` the map is the same,
+    /// though its vectors may have become its own.
+    ///
+    /// # Cost
+    /// One search. All memory is taken before the first change; each vector then moves what stands
+    /// behind the place.
+    pub fn remove<Q: ZvOrdArg<K>>(
+        &mut self,
+        alloc: Global,
+        key: &Q,
+    ) -> Result<Option<D::OwnedType>, NoMemory>
+        requires { length (Q.bytes key.now) < 2 ^ 64 }
+        ensures pairs { OnOk result (self.new.pairs ≡ without_key K.cmp self.old.pairs
+            (Q.bytes key.now)) }
+        ensures before { IfOk result (λ old. option_map D.OwnedType.bytes old
+            ≡ look_up K.cmp self.old.pairs (Q.bytes key.now)) }
+        ensures err { OnErr result (IsSameMap self.old self.new) }
+    {
+        let Ok(at) = self.place(key) else {
+            return Ok(None);
+        };
+        let old = self.take_out(alloc, at)?;
+        Ok(Some(old))
+    }
+}
