@@ -22,8 +22,6 @@ mod nested;
 #[cfg(test)]
 mod one_level;
 #[cfg(test)]
-mod permutation;
-#[cfg(test)]
 mod splices;
 #[cfg(test)]
 mod vectors;
