@@ -21,6 +21,7 @@ mod maps;
 mod nested;
 #[cfg(test)]
 mod one_level;
+mod permutation;
 #[cfg(test)]
 mod splices;
 #[cfg(test)]
