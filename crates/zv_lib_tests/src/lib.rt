@@ -21,7 +21,6 @@ mod maps;
 mod nested;
 #[cfg(test)]
 mod one_level;
-#[cfg(test)]
 mod permutation;
 #[cfg(test)]
 mod splices;

@@ -306,29 +306,3 @@ fn a_large_map_is_one_however_it_is_built(rt: HostRuntime) -> Result<(), Fail> {
     has_numbers(&rt, given.as_borrowed());
     Ok(())
 }
-
-// ---- other kinds in the same bytes
-
-// A map from numbers to bytes.
-type Small<'a> = ZeroMap<'a, u16, u8>;
-
-#[test]
-fn values_are_read_as_another_kind(rt: HostRuntime) -> Result<(), Fail> {
-    let alloc = rt.alloc();
-    let small = Small::try_from_pairs(alloc, &[(7, 0), (3, 1)])?;
-    let Ok(flags) = small.try_convert_zv_v_unchecked::<bool>() else {
-        panic!(rt; "0 and 1 are truth values");
-    };
-    assert!(rt; flags.get_copied(&3) == Some(true));
-    let small = Small::try_from_pairs(alloc, &[(7, 2)])?;
-    assert!(rt; small.try_convert_zv_v_unchecked::<bool>().is_err());
-    Ok(())
-}
-
-#[test]
-fn numbers_are_read_with_a_sign(rt: HostRuntime) -> Result<(), Fail> {
-    let numbers = Numbers::try_from_pairs(rt.alloc(), &[(7, 4_294_967_295)])?;
-    let signed = numbers.cast_zv_v_unchecked::<i32>();
-    assert!(rt; signed.get_copied(&7) == Some(-1));
-    Ok(())
-}
