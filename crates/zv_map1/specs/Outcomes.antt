@@ -6,7 +6,7 @@ use Rattle.zv_map.specs.declared.error.MapError.TheVariants.{TooLarge, Memory}
 use Rattle.zv_map1.specs.Room.{IsSameMap}
 use Rattle.zv_map1.specs.Views.{Bytes, Map1, Pairs}
 
--- a refusal leaves the map as it was; want of memory may leave its vectors owned, with more room
+-- a refusal leaves the map as it was; a failed allocation may leave vectors owned, with more room
 abbrev pub IsLeftBy : Map1 → Map1 → MapError → Type 0
 IsLeftBy old new TooLarge = new ≡ old
 IsLeftBy old new Memory = IsSameMap old new
