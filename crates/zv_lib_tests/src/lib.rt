@@ -20,6 +20,8 @@ mod maps;
 #[cfg(test)]
 mod nested;
 #[cfg(test)]
+mod reads;
+#[cfg(test)]
 mod splices;
 #[cfg(test)]
 mod vectors;
