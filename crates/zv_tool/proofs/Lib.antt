@@ -2,6 +2,7 @@ mod Worked
 pub mod Cutting
 pub mod Edits
 pub mod Fields
+pub mod Forms
 pub mod HexText
 pub mod Left
 pub mod Parsing
