@@ -21,7 +21,10 @@ mod maps;
 mod nested;
 #[cfg(test)]
 mod one_level;
+#[cfg(test)]
 mod permutation;
+#[cfg(test)]
+mod reads;
 #[cfg(test)]
 mod splices;
 #[cfg(test)]

@@ -1,14 +1,15 @@
 -- What the program owes for an image, by its fault.
-use Rattle.std.proofs.Common.{◌≡◌, List, ℕ, Some, None, ap, sym, subst}
+use Rattle.std.proofs.Common.{◌≡◌, ◌∙◌, List, ℕ, Some, None, ap, sym, subst}
 use Rattle.std.specs.Prelude.{MatchOption}
 use Rattle.std.specs.declared.option.Option.{Option}
-use Rattle.zv_map2d.specs.Image.{fault}
+use Rattle.zv_map2d.specs.Image.{Stands, by_bytes, fault}
+use Rattle.zv_map2d.specs.Rows.{Rows, find}
 use Rattle.zv_map2d.specs.declared.error.EditError.{EditError}
 use Rattle.zv_tool.specs.declared.command.Command.{Command}
 use Rattle.zv_tool.specs.declared.status.Status.TheVariants.{Done, BadImage}
 use Rattle.zv_tool.specs.Answers.{IsAnswer}
-use Rattle.zv_tool.specs.Output.{cause_line}
-use Rattle.zv_tool.specs.Program.{ImageText, status_of_fault, status_of_image}
+use Rattle.zv_tool.specs.Output.{cause_line, found_line}
+use Rattle.zv_tool.specs.Program.{ImageText, IsLooked, LookedText, status_of_fault, status_of_image}
 
 -- a text by the fault that is found, whatever the fault's definition
 text_by : (f g : Option EditError) (P : Type 0) (text : List ℕ) → f ≡ g → MatchOption g P (λ cause. text ≡ cause_line cause)
@@ -33,3 +34,19 @@ refused_status image cause is = ap status_of_fault is
 pub sound_status : (image : List ℕ) → fault image ≡ None → status_of_image image ≡ Done
 unfolding status_of_image
 sound_status image is = ap status_of_fault is
+
+-- ---- a look-up in an image
+
+pub refused_look : (image key0 key1 : List ℕ) (cause : EditError) (text : List ℕ) → fault image ≡ Some cause → text ≡ cause_line cause →
+    LookedText image key0 key1 text
+unfolding LookedText
+refused_look image key0 key1 cause text is same = text_by (fault image) (Some cause) (IsLooked image key0 key1 text) text is same
+
+-- the line of what was found
+pub found_look : (image key0 key1 a b : List ℕ) (value : Option (List ℕ)) → fault image ≡ None → a ≡ key0 → b ≡ key1 →
+    ((m : Rows) × Stands image m × (value ≡ find by_bytes by_bytes m a b)) → LookedText image key0 key1 (found_line value)
+unfolding LookedText
+found_look image key0 key1 a b value none p q found =
+    let is : value ≡ find by_bytes by_bytes found.0 key0 key1 =
+    found.2 ∙ ap (λ (k : List ℕ × List ℕ). find by_bytes by_bytes found.0 k.0 k.1) (λ i. (p i, q i)) in
+    text_by (fault image) None (IsLooked image key0 key1 (found_line value)) (found_line value) none (found.0, found.1, ap found_line is)

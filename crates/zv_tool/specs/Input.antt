@@ -144,6 +144,21 @@ parse_lines (first ∷ rest) = image_and (field first) (commands 2 rest)
 unfoldable pub parse_input : List ℕ → Result (List ℕ × List Command) ℕ
 parse_input input = parse_lines (lines input)
 
+-- the image of the first line, where it is the only one, or the number of the first bad line
+abbrev pub only_image : Option (List ℕ) → List (List ℕ) → Result (List ℕ) ℕ
+only_image None rest = Err 1
+only_image (Some image) [] = Ok image
+only_image (Some image) (line ∷ rest) = Err 2
+
+-- the same, of a look-up's lines: no line is a bad line 1, and each line after the first is bad
+abbrev pub look_lines : List (List ℕ) → Result (List ℕ) ℕ
+look_lines [] = Err 1
+look_lines (first ∷ rest) = only_image (field first) rest
+
+-- the image of a look-up's input, or the number of its first bad line, from 1
+unfoldable pub look_input : List ℕ → Result (List ℕ) ℕ
+look_input input = look_lines (lines input)
+
 -- The error names the bad line that parsing gives; after a failed allocation nothing is said.
 abbrev pub ReportsLine : {A : Type 0} → Result A ℕ → InputError → Type 0
 ReportsLine parsed (BadLine number) = parsed ≡ Err number

@@ -2,6 +2,8 @@
 use Rattle.std.specs.Prelude.{ℕ, List, [], ◌∷◌, ◌++◌, codes}
 use Rattle.std.specs.Fmt.{decimal}
 use Rattle.std.specs.List.{flat_map}
+use Rattle.std.specs.Option.{option_map_or}
+use Rattle.std.specs.declared.option.Option.{Option}
 use Rattle.hex.specs.Hex.{encode_lower}
 use Rattle.zv_ule.specs.declared.error.UleError.TheVariants.{InvalidLength, ParseError}
 use Rattle.zv_map2d.specs.declared.error.EditError.{EditError}
@@ -39,6 +41,10 @@ text added = line (codes "new")
 text (old value) = line (codes "old " ++ hex_field value)
 text too_large = line (codes "toolarge")
 text (pairs ps) = line (codes "row" ++ flat_map pair_text ps)
+
+-- the line of a value that was looked up, or of none
+abbrev pub found_line : Option (List ℕ) → List ℕ
+found_line value = text (option_map_or some value missing)
 
 -- the line that names the first bad line
 abbrev pub bad_line : ℕ → List ℕ

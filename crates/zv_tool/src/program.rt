@@ -1,27 +1,31 @@
 // The top call.
-ghost use Rattle.std.specs.Prelude.{◌≡◌, ◌⊎◌, ◌<◌, ◌≤◌, IsTrue, IsFalse, IfSome, length};
+ghost use Rattle.std.specs.Prelude.{◌≡◌, ◌⊎◌, ◌<◌, ◌≤◌, IsTrue, IsFalse, IfSome, None, length};
 ghost use Rattle.std.specs.Io.KnownBytes.{Appends, IsAtEnd};
 ghost use Rattle.zv_map2d.specs.Causes.{is_cause};
 ghost use Rattle.zv_tool.specs.Devices.{Rose, AppendsPrefix, Written, CutShort};
-ghost use Rattle.zv_tool.specs.Input.{parse_input};
+ghost use Rattle.zv_tool.specs.Input.{look_input, parse_input};
 ghost use Rattle.zv_tool.specs.Output.{bad_line, cause_line};
-ghost use Rattle.zv_tool.specs.Program.{is_edit, is_answer, is_silent, is_written};
-ghost use Rattle.zv_tool.specs.Program.{ImageText, InputText, WantedText, IsWantedStatus};
-ghost use Rattle.zv_tool.specs.Program.{status_of_image, status_of_parsed};
+ghost use Rattle.zv_tool.specs.Program.{form_of, is_edit, is_look, names_form};
+ghost use Rattle.zv_tool.specs.Program.{is_answer, is_silent, is_written};
+ghost use Rattle.zv_tool.specs.Program.{FormText, FormWanted, ImageText, InputText, WantedText};
+ghost use Rattle.zv_tool.specs.Program.{IsWantedStatus, status_of_form, status_of_image};
+ghost use Rattle.zv_tool.specs.Program.{status_of_look, status_of_parsed};
 ghost use Rattle.zv_tool.specs.Program.{Sent};
 
 use crate::device::{Failed, Sink, Source};
 use crate::edit::edit2d;
+use crate::form::{Form, read_form};
 use crate::input::{MAX_INPUT, ReadError, read_input};
+use crate::look::answer_look;
 use crate::parse::{InputError, Request, read_request};
 use crate::status::Status;
 use crate::words::Words;
 use std::alloc::Global;
 use zv_map2d::EditError;
-use zv_ule::UleError;
+use zv_ule::{NoMemory, UleError};
 
-// Writes a text.
-fn send<K: Sink>(sink: &mut K, text: &[u8], status: Status) -> Status
+/// Writes a text.
+pub(crate) fn send<K: Sink>(sink: &mut K, text: &[u8], status: Status) -> Status
     ensures sent { Sent result status text.now (K.taken sink.old) (K.taken sink.new)
         (K.faults sink.old) (K.faults sink.new) }
     ensures later { K.faults sink.old ≤ K.faults sink.new }
@@ -32,8 +36,8 @@ fn send<K: Sink>(sink: &mut K, text: &[u8], status: Status) -> Status
     }
 }
 
-// The line of a cause.
-fn cause_text(cause: EditError) -> &'static [u8]
+/// The line of a cause.
+pub(crate) fn cause_text(cause: EditError) -> &'static [u8]
     requires { IsTrue (is_cause cause) }
     ensures { result.now ≡ cause_line cause }
 {
@@ -75,8 +79,8 @@ fn respond<K: Sink>(alloc: Global, request: &Request, sink: &mut K) -> Status
     }
 }
 
-// Names the first bad line.
-fn name_line<K: Sink>(alloc: Global, number: u64, sink: &mut K) -> Status
+/// Names the first bad line.
+pub(crate) fn name_line<K: Sink>(alloc: Global, number: u64, sink: &mut K) -> Status
     ensures written { IsTrue (is_answer result) → (result ≡ Status.BadLine)
         × Appends (K.taken sink.old) (K.taken sink.new) (bad_line number) }
     ensures status { IsTrue (is_answer result)
@@ -93,8 +97,8 @@ fn name_line<K: Sink>(alloc: Global, number: u64, sink: &mut K) -> Status
     send(sink, text.as_bytes(), Status::BadLine)
 }
 
-// Answers an input, which is let go of before the answer is built.
-fn answer<K: Sink>(alloc: Global, input: Vec<u8>, sink: &mut K) -> Status
+// Runs the commands of an input, which is let go of before the answer is built.
+fn answer_edit<K: Sink>(alloc: Global, input: Vec<u8>, sink: &mut K) -> Status
     requires { length input.items ≤ MAX_INPUT }
     ensures written { IsTrue (is_answer result)
         → Written (InputText input.items) (K.taken sink.old) (K.taken sink.new) }
@@ -117,18 +121,68 @@ fn answer<K: Sink>(alloc: Global, input: Vec<u8>, sink: &mut K) -> Status
     }
 }
 
-// Whether the words are `edit`.
-fn is_edit(words: &Words) -> bool
-    ensures { result ≡ is_edit words.now }
+// Answers an input in the form that was asked for.
+fn answer<K: Sink>(alloc: Global, form: &Form, input: Vec<u8>, sink: &mut K) -> Status
+    requires { length input.items ≤ MAX_INPUT }
+    ensures written { IsTrue (is_answer result)
+        → Written (FormText form.now input.items) (K.taken sink.old) (K.taken sink.new) }
+    ensures answer { IsTrue (is_answer result) → result ≡ status_of_form form.now input.items }
+    ensures status { IsTrue (is_answer result)
+        ⊎ (result ≡ Status.Memory) ⊎ (result ≡ Status.WriteFault) }
+    ensures memory { result ≡ Status.Memory → sink.new ≡ sink.old }
+    ensures cut { result ≡ Status.WriteFault
+        → CutShort (FormText form.now input.items) (K.taken sink.old) (K.taken sink.new) }
+    ensures fault { result ≡ Status.WriteFault → Rose (K.faults sink.old) (K.faults sink.new) }
+    ensures later { K.faults sink.old ≤ K.faults sink.new }
 {
-    words.len() == 1 && words.get(0) == Some("edit")
+    match form {
+        Form::Edit => answer_edit(alloc, input, sink),
+        Form::Look { key0, key1 } => answer_look(alloc, key0, key1, input, sink),
+    }
+}
+
+// Reads the source to its end and answers it.
+fn run_form<S: Source, K: Sink>(alloc: Global, form: &Form, source: &mut S, sink: &mut K) -> Status
+    ensures written { IsTrue (is_answer result)
+        → Written (FormWanted form.now (S.left source.old)) (K.taken sink.old) (K.taken sink.new) }
+    ensures status { IsTrue (is_answer result) → IfSome (S.left source.old) (λ input.
+        result ≡ status_of_form form.now input) }
+    ensures other { IsTrue (is_answer result) ⊎ IsTrue (is_silent result)
+        ⊎ (result ≡ Status.WriteFault) }
+    ensures silent { IsTrue (is_silent result) → sink.new ≡ sink.old }
+    ensures cut { result ≡ Status.WriteFault
+        → CutShort (FormWanted form.now (S.left source.old))
+        (K.taken sink.old) (K.taken sink.new) }
+    ensures end { IsTrue (is_answer result) → IsAtEnd (S.left source.new) }
+    ensures complete { IfSome (S.left source.old) (λ input. length input ≤ MAX_INPUT →
+        (result ≡ status_of_form form.now input)
+        ⊎ (result ≡ Status.Memory)
+        ⊎ Rose (S.faults source.old) (S.faults source.new)
+        ⊎ Rose (K.faults sink.old) (K.faults sink.new)) }
+    ensures read_fault { result ≡ Status.ReadFault
+        → Rose (S.faults source.old) (S.faults source.new) }
+    ensures too_long { result ≡ Status.TooLong
+        → IfSome (S.left source.old) (λ input. MAX_INPUT < length input) }
+    ensures write_fault { result ≡ Status.WriteFault
+        → Rose (K.faults sink.old) (K.faults sink.new) }
+    ensures later_reads { S.faults source.old ≤ S.faults source.new }
+    ensures later_writes { K.faults sink.old ≤ K.faults sink.new }
+{
+    match read_input(alloc, source) {
+        Ok(input) => answer(alloc, form, input, sink),
+        Err(ReadError::Fault) => Status::ReadFault,
+        Err(ReadError::TooLong) => Status::TooLong,
+        Err(ReadError::Memory) => Status::Memory,
+    }
 }
 
 /// All that the program does: reads the source to its end, answers to the sink, and says how it
 /// ended.
 ///
-/// The one command form is `edit`. Line 1 of the input is `x` and an image in hex; each further
-/// line is a command, which runs on the map that those before it left:
+/// The command forms are `edit` and `look F F`. Line 1 of the input is `x` and an image in hex. For
+/// `look` it is the only line, and the answer is `some xV` or `none`, for the pair of keys that the
+/// fields are. For `edit` each further line is a command, which runs on the map that those before
+/// it left:
 ///
 /// - `get K K` looks up a pair of keys, and is answered `some xV`, or `none`;
 /// - `put K K F` gives a pair a value, and is answered `new`, `old xV` with the value that the pair
@@ -138,10 +192,10 @@ fn is_edit(words: &Words) -> bool
 ///   or `none`.
 ///
 /// A field F is `x` and an even number of hex digits in either case; a key K is a field that is
-/// UTF-8. One space stands between words. Lines end in LF, which may be missing after the last. All
-/// lines are checked before the image. The answer ends with `image xI`, the canonical image of the
-/// map that is left; its hex is in lower case. A refusal is one line, `error line N`, or `error`
-/// and the word of the image's first fault.
+/// UTF-8, and so are the fields of `look`. One space stands between words. Lines end in LF, which
+/// may be missing after the last. All lines are checked before the image. The answer of `edit` ends
+/// with `image xI`, the canonical image of the map that is left; its hex is in lower case. A
+/// refusal is one line, `error line N`, or `error` and the word of the image's first fault.
 pub fn run<S: Source, K: Sink>(alloc: Global, words: &Words, source: &mut S, sink: &mut K) -> Status
     // Where a text is due, it is the one that the words and the whole input want.
     ensures written { IsTrue (is_written result)
@@ -163,11 +217,18 @@ pub fn run<S: Source, K: Sink>(alloc: Global, words: &Words, source: &mut S, sin
         ⊎ Rose (S.faults source.old) (S.faults source.new)
         ⊎ Rose (K.faults sink.old) (K.faults sink.new)) }
 
+    ensures complete_look { IsTrue (is_look words.now) → IfSome (S.left source.old) (λ input.
+        length input ≤ MAX_INPUT → (result ≡ status_of_look (look_input input))
+        ⊎ (result ≡ Status.Memory)
+        ⊎ Rose (S.faults source.old) (S.faults source.new)
+        ⊎ Rose (K.faults sink.old) (K.faults sink.new)) }
+
     // When each of the others comes.
-    ensures usage { result ≡ Status.Usage → IsFalse (is_edit words.now) }
-    ensures no_form { IsFalse (is_edit words.now)
-        → (result ≡ Status.Usage) ⊎ (result ≡ Status.WriteFault) }
-    ensures untouched { IsFalse (is_edit words.now) → source.new ≡ source.old }
+    ensures usage { result ≡ Status.Usage → form_of words.now ≡ None }
+    ensures no_form { form_of words.now ≡ None → (result ≡ Status.Usage)
+        ⊎ (result ≡ Status.Memory) ⊎ (result ≡ Status.WriteFault) }
+    ensures no_name { IsFalse (names_form words.now) → result ≡ Status.Memory → ⊥ }
+    ensures untouched { form_of words.now ≡ None → source.new ≡ source.old }
     ensures read_fault { result ≡ Status.ReadFault
         → Rose (S.faults source.old) (S.faults source.new) }
     ensures too_long { result ≡ Status.TooLong
@@ -179,13 +240,9 @@ pub fn run<S: Source, K: Sink>(alloc: Global, words: &Words, source: &mut S, sin
     ensures later_reads { S.faults source.old ≤ S.faults source.new }
     ensures later_writes { K.faults sink.old ≤ K.faults sink.new }
 {
-    if !is_edit(words) {
-        return send(sink, b"usage: zv COMMAND\n", Status::Usage);
-    }
-    match read_input(alloc, source) {
-        Ok(input) => answer(alloc, input, sink),
-        Err(ReadError::Fault) => Status::ReadFault,
-        Err(ReadError::TooLong) => Status::TooLong,
-        Err(ReadError::Memory) => Status::Memory,
+    match read_form(alloc, words) {
+        Ok(Some(form)) => run_form(alloc, &form, source, sink),
+        Ok(None) => send(sink, b"usage: zv COMMAND\n", Status::Usage),
+        Err(NoMemory) => Status::Memory,
     }
 }

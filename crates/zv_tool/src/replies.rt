@@ -22,8 +22,12 @@ use zv_ule::{SliceULE, StrULE, VarRef};
 /// The map of an image.
 pub type ImageMap<'a> = ZeroMap2d<'a, StrULE, StrULE, SliceULE<u8>>;
 
-// Writes a line of a head, which ends with the mark of a field, and a value.
-fn write_value<K: Sink>(out: &mut Output<'_, K>, head: &[u8], value: &[u8]) -> Result<(), Failed>
+/// Writes a line of a head, which ends with the mark of a field, and a value.
+pub(crate) fn write_value<K: Sink>(
+    out: &mut Output<'_, K>,
+    head: &[u8],
+    value: &[u8],
+) -> Result<(), Failed>
     ensures { Sends K.taken K.faults out.old out.new result
         (line (head.now ++ encode_lower value.now)) }
 {

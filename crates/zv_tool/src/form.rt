@@ -1,0 +1,76 @@
+// The forms of a command.
+ghost use Rattle.std.specs.Prelude.{◌≡◌, IfOk, IsTrue, MatchOption, None, OnErr, Some};
+ghost use Rattle.zv_tool.specs.Input.{three_words};
+ghost use Rattle.zv_tool.specs.Program.{form_of, is_edit, look_keys, look_of, names_form};
+
+use crate::command::KeyText;
+use crate::lines::read_key;
+use crate::words::Words;
+use std::alloc::Global;
+use zv_ule::NoMemory;
+
+/// What the words of the command line ask for.
+#[derive(Drop)]
+pub(crate) enum Form {
+    /// Commands are run on an image.
+    Edit,
+    /// A pair of keys is looked up in an image.
+    Look { key0: KeyText, key1: KeyText },
+}
+
+// Whether the words are `edit`.
+fn is_edit(words: &Words) -> bool
+    ensures { result ≡ is_edit words.now }
+{
+    words.len() == 1 && words.get(0) == Some("edit")
+}
+
+// The words, where there are three.
+fn three_words(words: &Words) -> Option<(&str, &str, &str)>
+    ensures { MatchOption result (three_words words.now ≡ None)
+        (λ triple. three_words words.now
+        ≡ Some (triple.0.now, triple.1.now, triple.2.now)) }
+{
+    if words.len() != 3 {
+        return None;
+    }
+    Some((words.get(0)?, words.get(1)?, words.get(2)?))
+}
+
+// The look-up of the keys that two words are.
+fn read_keys(alloc: Global, a: &str, b: &str) -> Result<Option<Form>, NoMemory>
+    ensures { IfOk result (λ form. form ≡ look_keys a.now b.now) }
+{
+    let Some(key0) = read_key(alloc, a.as_bytes())? else {
+        return Ok(None);
+    };
+    match read_key(alloc, b.as_bytes())? {
+        Some(key1) => Ok(Some(Form::Look { key0, key1 })),
+        None => Ok(None),
+    }
+}
+
+// The form of words that are `look` and two keys.
+fn read_look(alloc: Global, words: &Words) -> Result<Option<Form>, NoMemory>
+    ensures form { IfOk result (λ form. form ≡ look_of words.now) }
+    ensures named { OnErr result (IsTrue (names_form words.now)) }
+{
+    let Some((word, a, b)) = three_words(words) else {
+        return Ok(None);
+    };
+    if word != "look" {
+        return Ok(None);
+    }
+    read_keys(alloc, a, b)
+}
+
+/// The form that the words are, or `None` where they are none.
+pub(crate) fn read_form(alloc: Global, words: &Words) -> Result<Option<Form>, NoMemory>
+    ensures form { IfOk result (λ form. form ≡ form_of words.now) }
+    ensures named { OnErr result (IsTrue (names_form words.now)) }
+{
+    if is_edit(words) {
+        return Ok(Some(Form::Edit));
+    }
+    read_look(alloc, words)
+}
