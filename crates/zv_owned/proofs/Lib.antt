@@ -1,4 +1,5 @@
 pub mod Codable
+pub mod Copies
 pub mod Gaps
 pub mod Offsets
 pub mod Pushes

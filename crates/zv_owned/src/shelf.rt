@@ -3,6 +3,7 @@ ghost use Rattle.std.specs.Prelude.{◌≡◌, ℕ, ◌+◌, ◌-◌, ◌<◌, �
 ghost use Rattle.std.specs.Prelude.{replicate, OnOk, OnErr, IsOk, IfOk};
 ghost use Rattle.std.specs.List.{copy_within, splice};
 
+use crate::blocks::copy_bytes;
 use std::alloc::Global;
 use std::marker::Model;
 use std::ops::Range;
@@ -176,7 +177,7 @@ impl Shelf {
         ensures steps { steps.new ≡ steps.old + (from.end - from.start) }
     {
         let n = from.end - from.start;
-        self.buffer.copy_within(from.start..from.end, to);
+        copy_bytes(self.buffer.as_mut_slice(), from.start, from.end, to);
         steps.take(n);
     }
 
