@@ -1,5 +1,5 @@
 -- Hex digits that are read by a table, pair after pair.
-use Rattle.std.proofs.Common.{◌≡◌, ℕ, zero, suc, ◌+◌, ◌*◌, ◌%◌, ◌<◌, ◌≤◌, ◌==◌, Bool, true, false, ◌&&◌, List, take, drop, slice_index, slice_set, length, inl, inr, Option, Some, None, Result, Ok, Err, refl, sym, ap, ◌∙◌, subst, arith}
+use Rattle.std.proofs.Common.{◌≡◌, ℕ, zero, suc, ◌+◌, ◌*◌, ◌%◌, ◌<◌, ◌≤◌, ◌==◌, Bool, true, false, ◌&&◌, List, [], ◌∷◌, ◌++◌, replicate, take, drop, slice_index, slice_set, length, inl, inr, Option, Some, None, Result, Ok, Err, refl, sym, ap, ◌∙◌, subst, arith}
 use Rattle.std.specs.Prelude.{if◌then◌else◌, nat_lt, unwrap_or}
 use Rattle.std.specs.Result.{result_ok}
 use Rattle.std.proofs.lemmas.Bool.{and_parts, cases_lt, eqb-true}
@@ -25,13 +25,19 @@ are_values t (suc n) = (slice_index t n == digit_or_16 n) && are_values t n
 pub value_in : (t : List ℕ) (n c : ℕ) → are_values t n ≡ true → c < n → slice_index t c ≡ digit_or_16 c
 value_in t zero c all lt = absurd (omega arith)
 value_in t (suc n) c all lt =
-    let parts = and_parts _ (are_values t n) all in
+    let parts = and_parts (slice_index t n == digit_or_16 n) (are_values t n) all in
     elim (cases_lt c n) [
       | inl below ↦ value_in t n c parts.1 below
       | inr top ↦
           let is : c ≡ n = omega arith in
           rw is (eqb-true _ _ parts.0)
     ]
+
+-- the table of `digits`
+abbrev pub values : List ℕ
+values =
+    let letters : List ℕ = 10 ∷ 11 ∷ 12 ∷ 13 ∷ 14 ∷ 15 ∷ [] in
+    replicate 48 16 ++ (0 ∷ 1 ∷ 2 ∷ 3 ∷ 4 ∷ 5 ∷ 6 ∷ 7 ∷ 8 ∷ 9 ∷ []) ++ replicate 7 16 ++ letters ++ replicate 26 16 ++ letters ++ replicate 153 16
 
 -- ---- the loop
 

@@ -1,5 +1,6 @@
 // Bytes that stand in place where they are few, and are boxed where they are more.
 ghost use Rattle.std.specs.Prelude.{◌≡◌, ◌≤◌, IsTrue, IsUtf8, IfOk, length, take};
+ghost use Rattle.std.specs.Str.{is_utf8};
 ghost use Rattle.zv_tool.specs.Digits.{content_of, is_of_kind};
 
 use crate::digits::{decode, decode_to};
@@ -25,15 +26,22 @@ enum Stored {
 
 const _: () = prove!(size_of::<Stored>() == 16);
 
+// Whether bytes are UTF-8. (Most texts are ASCII, which is tested faster.)
+#[inline]
+fn is_text(bytes: &[u8]) -> bool
+    ensures { result ≡ is_utf8 bytes.now }
+{
+    if bytes.is_ascii() {
+        return true;
+    }
+    std::str::from_utf8(bytes).is_ok()
+}
+
 // Whether bytes are of a kind.
 fn is_of_kind(kind: u8, bytes: &[u8]) -> bool
     ensures { result ≡ is_of_kind kind bytes.now }
 {
-    if kind == TEXT {
-        std::str::from_utf8(bytes).is_ok()
-    } else {
-        true
-    }
+    if kind == TEXT { is_text(bytes) } else { true }
 }
 
 /// Bytes of a kind. They take 16 bytes of their own: up to 12 of them stand in place, and only more

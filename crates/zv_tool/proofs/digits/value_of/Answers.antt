@@ -1,6 +1,6 @@
 use Rattle.std.proofs.Common.{refl, arith}
-use Rattle.zv_tool.proofs.Decoding.{value_in}
+use Rattle.zv_tool.proofs.Decoding.{value_in, values}
 use Rattle.zv_tool.proofs.digits.value_of.Goals as goal
 
 pub returns : goal.returns
-returns c = value_in _ 256 c.args.digit refl (omega arith)
+returns c = value_in values 256 c.args.digit refl (omega arith)

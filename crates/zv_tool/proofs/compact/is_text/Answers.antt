@@ -1,9 +1,9 @@
 use Rattle.std.proofs.Common.{◌≡◌, ◌∙◌, List, ℕ, Ok, Err, refl, sym}
 use Rattle.std.specs.Prelude.{IsUtf8, MatchResult, Result, is_ok}
 use Rattle.std.specs.Str.{is_utf8}
-use Rattle.std.proofs.lemmas.Str.{is_utf8-from_IsUtf8}
+use Rattle.std.proofs.lemmas.Str.{IsUtf8-from_ascii, is_utf8-from_IsUtf8}
 use Rattle.zv_ule.proofs.Texts.{test_no}
-use Rattle.zv_tool.proofs.compact.is_of_kind.Goals as goal
+use Rattle.zv_tool.proofs.compact.is_text.Goals as goal
 
 -- what a test for UTF-8 answers
 utf8_test : {A E : Type 0} (r : Result A E) (bytes : List ℕ) (P : A → Type 0) (Q : E → Type 0)
@@ -11,5 +11,8 @@ utf8_test : {A E : Type 0} (r : Result A E) (bytes : List ℕ) (P : A → Type 0
 utf8_test (Ok s) bytes P Q h = sym (is_utf8-from_IsUtf8 bytes h.1)
 utf8_test (Err e) bytes P Q h = sym (test_no bytes _ refl h.0)
 
-pub returns-then-kind-eq-TEXT : goal.returns-then-kind-eq-TEXT
-returns-then-kind-eq-TEXT c = rw c.if-kind-eq-TEXT.true (c.is_ok.ensures.value ∙ utf8_test _ c.args.bytes.now _ _ c.from_utf8.ensures.cases)
+pub returns : goal.returns
+returns c = c.is_ok.ensures.value ∙ utf8_test _ c.args.bytes.now _ _ c.from_utf8.ensures.cases
+
+pub returns-then-is_ascii : goal.returns-then-is_ascii
+returns-then-is_ascii c = sym (is_utf8-from_IsUtf8 c.args.bytes.now (IsUtf8-from_ascii c.args.bytes.now c.if-is_ascii.ensures.cases))
