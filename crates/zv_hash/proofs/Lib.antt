@@ -6,3 +6,4 @@ mod Links
 mod Choices
 mod Fillings
 mod Decide
+mod Stuck

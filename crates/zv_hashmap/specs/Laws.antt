@@ -1,7 +1,8 @@
 -- Keys that compare Equal are hashed alike. These are proofs.
-use Rattle.std.specs.Prelude.{◌≡◌, ℕ, List}
+use Rattle.std.specs.Prelude.{◌≡◌, ℕ, List, [], ◌∷◌, refl}
 use Rattle.std.proofs.Common.{ap}
 use Rattle.std.proofs.lemmas.Map.Lookups.{CmpEqualImpliesEq}
+use Rattle.std.specs.Cmp.Lexicographic.{slice_cmp}
 use Rattle.std.specs.Ordering.{on, ordering_then}
 use Rattle.zv_ule.proofs.ComposedOrders.{both_equal, same_three, same_four, same_five, same_six}
 use Rattle.std.specs.declared.cmp.Ordering.{Ordering}
@@ -79,3 +80,15 @@ exact_six c0 c1 c2 c3 c4 c5 h0 h1 h2 h3 h4 h5 v w e =
     let e2 = both_equal _ _ e3.0 in
     let e1 = both_equal _ _ e2.0 in
     same_six v w (h0 v.0 w.0 e1.0) (h1 v.1 w.1 e1.1) (h2 v.2 w.2 e2.1) (h3 v.3 w.3 e3.1) (h4 v.4 w.4 e4.1) (h5 v.5 w.5 e5.1)
+
+-- and so are lists
+pub exact_lists : {A : Type 0} (cmp : A → A → Ordering) → CmpEqualImpliesEq cmp →
+    CmpEqualImpliesEq (slice_cmp cmp)
+exact_lists cmp exact [] [] e = refl
+exact_lists cmp exact [] (y ∷ ys) e = cc
+exact_lists cmp exact (x ∷ xs) [] e = cc
+exact_lists cmp exact (x ∷ xs) (y ∷ ys) e =
+    let p = both_equal (cmp x y) (slice_cmp cmp xs ys) e in
+    let first = exact x y p.0 in
+    let rest = exact_lists cmp exact xs ys p.1 in
+    λ i. first i ∷ rest i

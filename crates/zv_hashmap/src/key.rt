@@ -6,6 +6,7 @@ ghost use Rattle.zv_ule.specs.Views.{element_of};
 ghost use Rattle.zv_xxhash.specs.Digest.{xxh64};
 ghost use Rattle.zv_hashmap.specs.Hashed.{Writes, key_hash};
 
+mod lists;
 mod numbers;
 mod texts;
 mod tuples;

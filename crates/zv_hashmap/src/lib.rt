@@ -1,6 +1,10 @@
 //! Hash tables in which every key, stored or not, is answered with one comparison.
 #![tactic(auto)]
 
+pub mod error;
 pub mod key;
+pub mod table;
 
+pub use error::HashPartsError;
 pub use key::{FixedKey, HashArg, HashBytes, compute_hash};
+pub use table::{HashMapOver, ZeroHashMap};
