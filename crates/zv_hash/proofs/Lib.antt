@@ -7,3 +7,4 @@ mod Choices
 mod Fillings
 mod Decide
 mod Stuck
+mod Permutations

@@ -1,9 +1,9 @@
 -- Buckets choose alike wherever all before them do, so a bucket that is stuck is stuck in every table.
-use Rattle.std.proofs.Common.{◌≡◌, ℕ, zero, suc, ◌+◌, ◌<◌, ◌≤◌, ◌==◌, ◌⊎◌, inl, inr, List, length, ap, sym, arith, refl, ◌∙◌, slice_index}
+use Rattle.std.proofs.Common.{◌≡◌, ℕ, zero, suc, ◌+◌, ◌<◌, ◌≤◌, ◌==◌, inl, inr, List, length, ap, sym, arith, refl, ◌∙◌, slice_index}
 use Rattle.std.proofs.lemmas.Bool.{cases_order}
 use Rattle.std.proofs.lemmas.List.Sums.{count_by-le-length}
 use Rattle.zv_hash.specs.Splitting.{bucket_of}
-use Rattle.zv_hash.specs.Placement.{bucket_at, size, displacement, slot_at, sent_to, IsBefore, IsEarlier, Fits, IsChoice, IsStuck, Chosen}
+use Rattle.zv_hash.specs.Placement.{bucket_at, size, displacement, slot_at, sent_to, IsBefore, IsEarlier, IsChoice, IsStuck, Chosen}
 use Rattle.zv_hash.proofs.Choices.{same_fits}
 use Rattle.zv_hash.proofs.Slots.{bucket_below, member_size}
 
