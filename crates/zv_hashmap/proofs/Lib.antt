@@ -1,2 +1,4 @@
+mod Built
+mod Lookups
 mod Slots
 mod Written

@@ -3,6 +3,7 @@
 
 pub mod error;
 pub mod key;
+pub mod laws;
 pub mod table;
 
 pub use error::HashPartsError;

@@ -1,6 +1,6 @@
 // Hash tables.
 ghost use Rattle.std.specs.Prelude.{◌≡◌, ℕ, ◌==◌, ◌+◌, ◌^◌, ◌<◌, ◌≤◌, ◌↔◌, length, zip, IsTrue};
-ghost use Rattle.std.specs.Prelude.{IfOk, Some, is_some, option_map};
+ghost use Rattle.std.specs.Prelude.{IfOk, IfSome, Some, is_some, option_map};
 ghost use Rattle.std.specs.Result.{result_err};
 ghost use Rattle.zv_fixed.specs.Views.{bytes_of as displacement_bytes, values_in};
 ghost use Rattle.zv_map.specs.Iters.{elements_left, left_of};
@@ -31,10 +31,10 @@ pub struct HashMapOver<
     C: ZvContainer<K>,
     D: ZvContainer<V>,
 > {
-    displacements: ZeroVec<'a, (u32, u32)>,
-    keys: C,
-    values: D,
-    kinds: PhantomData<(K, V)>,
+    pub(crate) displacements: ZeroVec<'a, (u32, u32)>,
+    pub(crate) keys: C,
+    pub(crate) values: D,
+    pub(crate) kinds: PhantomData<(K, V)>,
 }
 
 /// A hash table whose keys and values are of these kinds, each kind in its own container.
@@ -142,7 +142,7 @@ impl<'a, K: HashBytes, V: ZvKind, C: ZvContainer<K>, D: ZvContainer<V>>
     pub fn iter(&self) -> ZeroMapIter<'_, K, V>
         ensures { left_of result ≡ pairs_of self.now }
     {
-        ZeroMapIter::new(self.keys(), self.values())
+        ZeroMapIter::new(self.keys.zvl_as_borrowed(), self.values.zvl_as_borrowed())
     }
 
     /// The keys, slot by slot.
@@ -164,9 +164,11 @@ impl<'a, K: HashBytes, V: ZvKind, C: ZvContainer<K>, D: ZvContainer<V>>
     /// The slot that a hash leads to.
     #[inline]
     fn slot(&self, hash: u64) -> Option<usize>
-        ensures { result ≡ slot_of_hash self.now.displacements (length self.now.keys) hash }
+        ensures slot { result
+            ≡ slot_of_hash self.now.displacements (length self.now.keys) hash }
+        ensures within { IfSome result (λ s. s < length self.now.keys) }
     {
-        let count = self.len();
+        let count = self.keys.zvl_len();
         if count == 0 {
             return None;
         }
@@ -188,8 +190,9 @@ impl<'a, K: HashBytes, V: ZvKind, C: ZvContainer<K>, D: ZvContainer<V>>
         ensures one { steps.new ≤ steps.old + 1 }
         ensures counted { steps.old ≤ steps.new }
     {
+        let keys = self.keys.zvl_as_borrowed();
         let slot = self.slot(compute_hash::<K, Q>(key))?;
-        let stored = self.keys().at(slot);
+        let stored = keys.at(slot);
         if key.arg_compare(stored.as_bytes(), steps).is_ne() {
             return None;
         }
@@ -237,7 +240,7 @@ impl<'a, K: HashBytes, V: ZvKind, C: ZvContainer<K>, D: ZvContainer<V>>
     pub fn verify(&self) -> bool
         ensures { IsTrue result ↔ AreHome K.hashed self.now }
     {
-        let keys = self.keys();
+        let keys = self.keys.zvl_as_borrowed();
         for slot in 0..keys.len() {
             if self.slot(compute_hash::<K, VarRef<'_, K>>(&keys.at(slot))) != Some(slot) {
                 return false;
@@ -261,11 +264,15 @@ impl<'a, K: HashBytes, V: ZvKind, C: ZvContainer<K>, D: ZvContainer<V>>
         D: Drop,
         requires usable_keys { IsTrue K.usable }
         requires usable_values { IsTrue V.usable }
-        ensures error { result_err result ≡ parts_fault (length displacements.values)
+        ensures error { result_err result ≡ parts_fault (length displacements.entry.values)
             (length (C.list keys)) (length (D.list values)) }
-        ensures displacements { IfOk result (λ t. t.displacements ≡ displacements.values) }
+        ensures displacements { IfOk result (λ t. t.displacements ≡ displacements.entry.values) }
         ensures keys { IfOk result (λ t. t.keys ≡ C.list keys) }
         ensures values { IfOk result (λ t. t.values ≡ D.list values) }
+        ensures displacement_bytes { IfOk result
+            (λ t. t.displacement_vector.bytes ≡ displacements.entry.bytes) }
+        ensures key_bytes { IfOk result (λ t. t.key_vector.bytes ≡ C.bytes keys) }
+        ensures value_bytes { IfOk result (λ t. t.value_vector.bytes ≡ D.bytes values) }
     {
         if keys.zvl_len() != values.zvl_len() {
             return Err(HashPartsError::KeyValueCount);
