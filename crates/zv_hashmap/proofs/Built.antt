@@ -1,5 +1,5 @@
 -- A table whose keys and values went where a placement says.
-use Rattle.std.proofs.Common.{◌≡◌, ℕ, zero, suc, ◌+◌, ◌<◌, ◌^◌, Bool, true, List, [], ◌∷◌, length, map, get_or, Some, refl, sym, ◌∙◌, ap, subst, arith, zero-add}
+use Rattle.std.proofs.Common.{◌≡◌, ℕ, zero, suc, ◌<◌, ◌^◌, Bool, true, List, [], ◌∷◌, length, map, get_or, Some, refl, sym, ◌∙◌, ap, subst, arith, zero-add}
 use Rattle.std.proofs.lemmas.List.{get_or-map, get_or_default, length-map, same_lists}
 use Rattle.std.proofs.lemmas.List.FromFn.{get_or-map-range_with_len, get_or-range_with_len, length-map-range_with_len, length-range_with_len}
 use Rattle.std.proofs.lemmas.List.Sorted.{Contains-permutation, IsPermutation-map}
@@ -8,12 +8,14 @@ use Rattle.std.proofs.lemmas.Map.Made.{keys_of-zip}
 use Rattle.std.proofs.lemmas.Option.{slice_get-get_or}
 use Rattle.std.specs.Cmp.{IsTotalOrder}
 use Rattle.std.specs.List.{range_with_len, slice_get, zip}
-use Rattle.std.specs.Prelude.{IsPermutation}
+use Rattle.std.specs.Prelude.{IfErr, IfOk, IsPermutation, MatchResult, Result, Ok, Err}
 use Rattle.std.specs.declared.cmp.Ordering.{Ordering}
 use Rattle.std.specs.declared.cmp.Ordering.TheVariants.{Equal}
 use Rattle.zv_hash.specs.Placement.{Chosen}
+use Rattle.zv_hash.specs.declared.error.HashError.{HashError}
+use Rattle.zv_hash.specs.declared.error.HashError.TheVariants.{Memory}
 use Rattle.zv_hashmap.proofs.Lookups.{answers}
-use Rattle.zv_hashmap.specs.Building.{AreApartBelow, IsPlacement, IsTableOf, hashes_of}
+use Rattle.zv_hashmap.specs.Building.{AreApartBelow, IsNoTable, IsPlacement, IsTableOf, hashes_of}
 use Rattle.zv_hashmap.specs.Hashed.{key_hash}
 use Rattle.zv_hashmap.specs.Table.{AreHome, Table, found, pairs_of, slot_of_hash, slot_of_key}
 use Rattle.zv_map.specs.Keys.{Bytes, nth}
@@ -113,7 +115,7 @@ module _ (order : Bytes → Bytes → Ordering) (total : IsTotalOrder order) (ha
         let all : map pair (range_with_len 0 n) ≡ pairs = same_lists (map pair (range_with_len 0 n)) pairs few (λ k d h.
         get_or-map-range_with_len pair 0 n k k d (omega (arith, h, length-map-range_with_len pair 0 n)) (zero-add k) ∙ pair_is pairs k d (omega (arith, h, few))) in
         let arranged : map pair places ≡ pairs_of t = sym (zip_map (λ i. nth ks i) (λ i. nth vs i) places)
-            ∙ (ap (λ l. zip l (permuted vs places)) (sym keys) ∙ ap (λ l. zip t.keys l) (sym values)) in
+        ∙ (ap (λ l. zip l (permuted vs places)) (sym keys) ∙ ap (λ l. zip t.keys l) (sym values)) in
         subst (λ l. IsPermutation l (pairs_of t)) all
         (subst (λ l. IsPermutation (map pair (range_with_len 0 n)) l) arranged (IsPermutation-map pair (range_with_len 0 n) places placement.permutation))
 
@@ -127,3 +129,15 @@ module _ (order : Bytes → Bytes → Ordering) (total : IsTotalOrder order) (ha
       home = home;
       answers = answers order total hashed alike t pairs at within key_at value_at slot_for;
     }
+
+-- what is made of lists that hold the pairs' keys and values
+pub table_or_memory : (order : Bytes → Bytes → Ordering) → IsTotalOrder order → (hashed : List ℕ → List ℕ) → ((a b : Bytes) → order a b ≡ Equal → hashed a ≡ hashed b)
+    → (pairs : List (Bytes × Bytes)) (fits : Bool) → length pairs < 2 ^ 32 → fits ≡ true → (ds : List (ℕ × ℕ)) (places : List ℕ) (seen kept values : List Bytes)
+    → seen ≡ keys_of pairs → kept ≡ keys_of pairs → values ≡ values_of pairs → IsPlacement order hashed seen ds places → (r : Result Table HashError)
+    → IfOk r (λ t. t.displacements ≡ ds) → IfOk r (λ t. t.keys ≡ permuted kept places) → IfOk r (λ t. t.values ≡ permuted values places) → IfErr r (λ e. e ≡ Memory)
+    → MatchResult r (IsTableOf order hashed fits pairs) (IsNoTable order hashed fits pairs)
+table_or_memory order total hashed alike pairs fits few taken ds places seen kept values is_seen is_kept are_values placement (Ok t) d k v m =
+    built order total hashed alike t pairs ds places (subst (λ l. IsPlacement order hashed l ds places) is_seen placement) d
+    (k ∙ ap (λ l. permuted l places) is_kept) (v ∙ ap (λ l. permuted l places) are_values) fits few taken
+table_or_memory order total hashed alike pairs fits few taken ds places seen kept values is_seen is_kept are_values placement (Err e) d k v m =
+    subst (λ x. IsNoTable order hashed fits pairs x) (sym m) tt

@@ -1,17 +1,16 @@
 -- What is found in a table's slots is what a look-up in a list of pairs finds.
-use Rattle.std.proofs.Common.{◌≡◌, ℕ, zero, suc, ◌+◌, ◌<◌, ◌⊎◌, inl, inr, Bool, true, false, cond, List, [], ◌∷◌, length, map, get_or, Option, Some, None, refl, sym, ◌∙◌, ap, arith, zero-add}
+use Rattle.std.proofs.Common.{◌≡◌, ℕ, zero, suc, ◌<◌, ◌⊎◌, inl, inr, Bool, true, false, cond, List, [], ◌∷◌, length, Option, Some, None, refl, sym, ◌∙◌, ap, arith}
 use Rattle.std.specs.BTreeMap.{is_at}
 use Rattle.std.specs.Cmp.{IsTotalOrder, Equal-is}
-use Rattle.std.specs.List.{Contains, range_with_len, slice_get, zip}
+use Rattle.std.specs.List.{slice_get}
 use Rattle.std.specs.Map.{lookup}
 use Rattle.std.specs.Ordering.{is_eq, match_ordering, ordering_reverse}
-use Rattle.std.specs.Prelude.{IsPermutation}
 use Rattle.std.specs.declared.cmp.Ordering.{Ordering}
 use Rattle.std.specs.declared.cmp.Ordering.TheVariants.{Less, Equal, Greater}
 use Rattle.zv_xxhash.specs.Digest.{xxh64}
 use Rattle.zv_hashmap.proofs.Slots.{slot_within}
 use Rattle.zv_hashmap.specs.Hashed.{key_hash}
-use Rattle.zv_hashmap.specs.Table.{AreHome, Table, found, found_in, pairs_of, slot_of_hash, slot_of_key}
+use Rattle.zv_hashmap.specs.Table.{Table, found, found_in, slot_of_hash, slot_of_key}
 use Rattle.zv_map.specs.Keys.{Bytes, nth}
 use Rattle.zv_map.specs.Maps.{keys_of, look_up, values_of}
 

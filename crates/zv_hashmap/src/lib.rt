@@ -1,6 +1,7 @@
 //! Hash tables in which every key, stored or not, is answered with one comparison.
 #![tactic(auto)]
 
+mod build;
 pub mod error;
 pub mod key;
 pub mod laws;

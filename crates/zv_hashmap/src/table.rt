@@ -24,13 +24,7 @@ use zv_ule::{Steps, VarRef, ZvKind, ZvOrdArg};
 ///
 /// A table that was made of parts may be any; then some of its keys may not be found
 /// ([`verify`](Self::verify)).
-pub struct HashMapOver<
-    'a,
-    K: HashBytes,
-    V: ZvKind,
-    C: ZvContainer<K>,
-    D: ZvContainer<V>,
-> {
+pub struct HashMapOver<'a, K: HashBytes, V: ZvKind, C: ZvContainer<K>, D: ZvContainer<V>> {
     pub(crate) displacements: ZeroVec<'a, (u32, u32)>,
     pub(crate) keys: C,
     pub(crate) values: D,
@@ -92,8 +86,13 @@ impl<'a, K: HashBytes, V: ZvKind, C: ZvContainer<K> + Drop, D: ZvContainer<V> + 
     }
 }
 
-impl<'a, K: HashBytes, V: ZvKind, C: ZvContainer<K>, D: ZvContainer<V>>
-    HashMapOver<'a, K, V, C, D> {
+impl<'a, K: HashBytes, V: ZvKind, C: ZvContainer<K>, D: ZvContainer<V>> HashMapOver<
+    'a,
+    K,
+    V,
+    C,
+    D,
+> {
     /// How many keys there are. It reads a count.
     #[inline]
     pub fn len(&self) -> usize

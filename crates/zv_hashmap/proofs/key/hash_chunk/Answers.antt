@@ -1,4 +1,4 @@
-use Rattle.std.proofs.Common.{◌++◌, arith}
+use Rattle.std.proofs.Common.{arith}
 use Rattle.zv_ule.specs.Bytes.{IsBytes}
 use Rattle.zv_ule.proofs.ChunkFaults.{kind_chunk}
 use Rattle.zv_ule.proofs.Exact.{through_twin}
