@@ -1,6 +1,6 @@
 // Hash tables that are built of pairs.
-ghost use Rattle.std.specs.Prelude.{◌≡◌, ℕ, ◌<◌, ◌≤◌, ◌^◌, ◌&&◌, [], length, map, true, IfErr, IfOk};
-ghost use Rattle.std.specs.Prelude.{IsPermutation, IsTrue, MatchOption, MatchResult, OnOk};
+ghost use Rattle.std.specs.Prelude.{◌≡◌, ℕ, ◌<◌, ◌≤◌, ◌^◌, ◌&&◌, [], length, map, true, IfErr};
+ghost use Rattle.std.specs.Prelude.{IfOk, IsPermutation, IsTrue, MatchOption, MatchResult, OnOk};
 ghost use Rattle.std.specs.List.{All, range_with_len};
 ghost use Rattle.std.specs.declared.cmp.Ordering.TheVariants.{Equal};
 ghost use Rattle.zv_hash.specs.declared.error.HashError.{HashError};

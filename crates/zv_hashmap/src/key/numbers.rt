@@ -44,7 +44,8 @@ impl HashBytes for i8 {
         hash_chunk::<i8>(element, hasher);
     }
 
-    ghost alike = { alike_by (λ b. cast_signed w8 (slice_index b 0)) (λ v. cast_unsigned w8 v ∷ []) exact_signed };
+    ghost alike = { alike_by (λ b. cast_signed w8 (slice_index b 0))
+        (λ v. cast_unsigned w8 v ∷ []) exact_signed };
 }
 
 impl FixedKey for i8 {
@@ -85,14 +86,16 @@ impl FixedKey for u16 {
 }
 
 impl HashBytes for i16 {
-    ghost hashed = { λ b. to_le_bytes w16 (cast_unsigned w16 (cast_signed w16 (from_le_bytes w16 b))) };
+    ghost hashed = { λ b.
+        to_le_bytes w16 (cast_unsigned w16 (cast_signed w16 (from_le_bytes w16 b))) };
 
     #[inline]
     fn hash_element(element: &[u8], hasher: &mut XxHash64) {
         hash_chunk::<i16>(element, hasher);
     }
 
-    ghost alike = { alike_by (λ b. cast_signed w16 (from_le_bytes w16 b)) (λ v. to_le_bytes w16 (cast_unsigned w16 v)) exact_signed };
+    ghost alike = { alike_by (λ b. cast_signed w16 (from_le_bytes w16 b))
+        (λ v. to_le_bytes w16 (cast_unsigned w16 v)) exact_signed };
 }
 
 impl FixedKey for i16 {
@@ -133,14 +136,16 @@ impl FixedKey for u32 {
 }
 
 impl HashBytes for i32 {
-    ghost hashed = { λ b. to_le_bytes w32 (cast_unsigned w32 (cast_signed w32 (from_le_bytes w32 b))) };
+    ghost hashed = { λ b.
+        to_le_bytes w32 (cast_unsigned w32 (cast_signed w32 (from_le_bytes w32 b))) };
 
     #[inline]
     fn hash_element(element: &[u8], hasher: &mut XxHash64) {
         hash_chunk::<i32>(element, hasher);
     }
 
-    ghost alike = { alike_by (λ b. cast_signed w32 (from_le_bytes w32 b)) (λ v. to_le_bytes w32 (cast_unsigned w32 v)) exact_signed };
+    ghost alike = { alike_by (λ b. cast_signed w32 (from_le_bytes w32 b))
+        (λ v. to_le_bytes w32 (cast_unsigned w32 v)) exact_signed };
 }
 
 impl FixedKey for i32 {
@@ -181,14 +186,16 @@ impl FixedKey for u64 {
 }
 
 impl HashBytes for i64 {
-    ghost hashed = { λ b. to_le_bytes w64 (cast_unsigned w64 (cast_signed w64 (from_le_bytes w64 b))) };
+    ghost hashed = { λ b.
+        to_le_bytes w64 (cast_unsigned w64 (cast_signed w64 (from_le_bytes w64 b))) };
 
     #[inline]
     fn hash_element(element: &[u8], hasher: &mut XxHash64) {
         hash_chunk::<i64>(element, hasher);
     }
 
-    ghost alike = { alike_by (λ b. cast_signed w64 (from_le_bytes w64 b)) (λ v. to_le_bytes w64 (cast_unsigned w64 v)) exact_signed };
+    ghost alike = { alike_by (λ b. cast_signed w64 (from_le_bytes w64 b))
+        (λ v. to_le_bytes w64 (cast_unsigned w64 v)) exact_signed };
 }
 
 impl FixedKey for i64 {
@@ -229,14 +236,16 @@ impl FixedKey for u128 {
 }
 
 impl HashBytes for i128 {
-    ghost hashed = { λ b. to_le_bytes w128 (cast_unsigned w128 (cast_signed w128 (from_le_bytes w128 b))) };
+    ghost hashed = { λ b.
+        to_le_bytes w128 (cast_unsigned w128 (cast_signed w128 (from_le_bytes w128 b))) };
 
     #[inline]
     fn hash_element(element: &[u8], hasher: &mut XxHash64) {
         hash_chunk::<i128>(element, hasher);
     }
 
-    ghost alike = { alike_by (λ b. cast_signed w128 (from_le_bytes w128 b)) (λ v. to_le_bytes w128 (cast_unsigned w128 v)) exact_signed };
+    ghost alike = { alike_by (λ b. cast_signed w128 (from_le_bytes w128 b))
+        (λ v. to_le_bytes w128 (cast_unsigned w128 v)) exact_signed };
 }
 
 impl FixedKey for i128 {

@@ -1,6 +1,0 @@
-use Rattle.zv_hashmap.proofs.Written.{then_written}
-use Rattle.zv_hashmap.proofs.key.tuples.Tuple5HashBytes.hash_element.Goals as goal
-
-pub returns : goal.returns
-returns g c = rw c.load-first.ensures.read at
-    (then_written _ _ _ _ _ c.hash_value.ensures.written (then_written _ _ _ _ _ c.hash_value-2.ensures.written (then_written _ _ _ _ _ c.hash_value-3.ensures.written (then_written _ _ _ _ _ c.hash_value-4.ensures.written c.hash_value-5.ensures.written))))
