@@ -1,5 +1,6 @@
 -- Different numbers below their count are the numbers from 0 on, in another order.
-use Rattle.std.proofs.Common.{◌≡◌, ℕ, zero, suc, ◌+◌, ◌<◌, ◌==◌, ◌⊎◌, inl, inr, Bool, true, false, List, [], ◌∷◌, ◌++◌, length, get_or, arith, sym, ◌∙◌, ap, subst, refl, zero-add}
+use Rattle.std.proofs.Common.{◌≡◌, ℕ, zero, suc, ◌+◌, ◌<◌, ◌==◌, ◌⊎◌, inl, inr, Bool, true, false, List, [], ◌∷◌, ◌++◌, length, get_or}
+use Rattle.std.proofs.Common.{arith, sym, ◌∙◌, ap, subst, refl, zero-add}
 use Rattle.std.specs.List.{AllByRecursion, IsDistinct, list_any, range_with_len, remove}
 use Rattle.std.specs.Prelude.{IsPermutation}
 use Rattle.std.proofs.lemmas.Bool.{cases_eq, false≢true}
@@ -7,7 +8,8 @@ use Rattle.std.proofs.lemmas.Bool.Decides.{nat_tests}
 use Rattle.std.proofs.lemmas.List.{get_or_default, nil_from_length}
 use Rattle.std.proofs.lemmas.List.Elements.{All-from_get_or, All-from_recursion, recursion_from_All}
 use Rattle.std.proofs.lemmas.List.Folds.{Any-from_list_any, list_any_at}
-use Rattle.std.proofs.lemmas.List.Sorted.{All-permutation, IsPermutation-cons, IsPermutation-refl, IsPermutation-remove, IsPermutation-sym, IsPermutation-to_front}
+use Rattle.std.proofs.lemmas.List.Sorted.{All-permutation, IsPermutation-cons, IsPermutation-refl, IsPermutation-remove, IsPermutation-sym}
+use Rattle.std.proofs.lemmas.List.Sorted.{IsPermutation-to_front}
 use Rattle.std.proofs.lemmas.List.Sorted.{IsPermutation-trans, length_permutation}
 use Rattle.std.proofs.lemmas.Map.Keys.{IsDistinct-IsPermutation, IsDistinct-from_apart, IsDistinct-head, IsDistinct-tail}
 use Rattle.std.proofs.lemmas.Map.Steps.{length-le_from_distinct_below}
@@ -72,7 +74,8 @@ permutation (suc m) xs long h distinct = elim (cases_true (list_any (same m) xs)
       let moved : IsPermutation xs (m ∷ ys) = IsPermutation-remove xs any.0 m any.2 is in
       let count = length_permutation xs (m ∷ ys) moved in
       let apart = IsDistinct-IsPermutation same flips xs (m ∷ ys) moved distinct in
-      let within = recursion_from_All (λ x. x < suc m) (m ∷ ys) (All-permutation (λ x. x < suc m) xs (m ∷ ys) moved (All-from_recursion (λ x. x < suc m) xs h)) in
+      let all = All-from_recursion (λ x. x < suc m) xs h in
+      let within = recursion_from_All (λ x. x < suc m) (m ∷ ys) (All-permutation (λ x. x < suc m) xs (m ∷ ys) moved all) in
       let rest = permutation m ys (omega arith) (below m ys within.1 (IsDistinct-head same m ys apart)) (IsDistinct-tail same m ys apart) in
       let front : IsPermutation (range_with_len 0 (suc m)) (m ∷ range_with_len 0 m) =
       subst (λ l. IsPermutation l (m ∷ range_with_len 0 m)) (sym (range_more 0 m ∙ ap (λ k. range_with_len 0 m ++ k ∷ []) (zero-add m)))

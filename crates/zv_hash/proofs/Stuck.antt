@@ -64,7 +64,8 @@ module _ (hs : List ℕ) (ds es : List (ℕ × ℕ)) (P : ℕ → Type 0) (some 
   all_alike f p = of_sizes (length hs + 1) f p (omega arith)
 
 -- no table has choices up to a bucket that is stuck
-module _ (hs : List ℕ) (g : ℕ) (stuck : IsStuck hs g) (es : List (ℕ × ℕ)) (choices : (f : ℕ) → f < length hs → 0 < size hs f → IsBefore hs f g → IsChoice hs es f) where
+module _ (hs : List ℕ) (g : ℕ) (stuck : IsStuck hs g) (es : List (ℕ × ℕ))
+    (choices : (f : ℕ) → f < length hs → 0 < size hs f → IsBefore hs f g → IsChoice hs es f) where
   record IsUp (f : ℕ) : Type 0 where
     within : f < length hs
     some : 0 < size hs f

@@ -1,4 +1,7 @@
 // Hash tables of numbers and texts: built, read, and made of parts that lie.
+ghost use Rattle.std.specs.Prelude.{◌<◌, ◌^◌, length};
+ghost use Rattle.std.specs.List.{All};
+
 use std::alloc::Global;
 use std::process::Abort;
 use std::test::Fail;
@@ -11,7 +14,9 @@ use zv_ule::StrULE;
 type Table<'a> = ZeroHashMap<'a, u32, StrULE>;
 
 // The table of pairs.
-fn table(alloc: Global, pairs: &[(u32, &str)]) -> Result<Table<'static>, HashError> {
+fn table(alloc: Global, pairs: &[(u32, &str)]) -> Result<Table<'static>, HashError>
+    requires { All (λ p. length p.1.now < 2 ^ 64) pairs.now }
+{
     Table::try_from_pairs(alloc, pairs)
 }
 

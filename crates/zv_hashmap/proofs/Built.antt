@@ -14,7 +14,7 @@ use Rattle.std.specs.declared.cmp.Ordering.TheVariants.{Equal}
 use Rattle.zv_hash.specs.Placement.{Chosen}
 use Rattle.zv_hash.specs.declared.error.HashError.{HashError}
 use Rattle.zv_hash.specs.declared.error.HashError.TheVariants.{Memory}
-use Rattle.zv_hashmap.proofs.Lookups.{answers}
+use Rattle.zv_hashmap.proofs.Lookups.{AreHashedAlike, answers}
 use Rattle.zv_hashmap.specs.Building.{AreApartBelow, IsNoTable, IsPlacement, IsTableOf, hashes_of}
 use Rattle.zv_hashmap.specs.Hashed.{key_hash}
 use Rattle.zv_hashmap.specs.Table.{AreHome, Table, found, pairs_of, slot_of_hash, slot_of_key}
@@ -39,14 +39,16 @@ pair_is [] k d h = absurd (omega arith)
 pair_is (e ∷ es) zero d h = refl
 pair_is (e ∷ es) (suc k) d h = pair_is es k d (omega arith)
 
-module _ (order : Bytes → Bytes → Ordering) (total : IsTotalOrder order) (hashed : List ℕ → List ℕ) (alike : (a b : Bytes) → order a b ≡ Equal → hashed a ≡ hashed b) (t : Table) where
+module _ (order : Bytes → Bytes → Ordering) (total : IsTotalOrder order) (hashed : List ℕ → List ℕ) (alike : AreHashedAlike order hashed)
+    (t : Table) where
   -- a table in which each key leads to its slot answers as its pairs do
   pub home_answers : length t.values ≡ length t.keys → AreHome hashed t → (q : Bytes) → found order hashed t q ≡ look_up order (pairs_of t) q
   home_answers long home q =
       let ks : keys_of (pairs_of t) ≡ t.keys = keys_of-zip t.keys t.values long in
       let vs : values_of (pairs_of t) ≡ t.values = values_zip t.keys t.values long in
       let count : length (pairs_of t) ≡ length t.keys = sym (length-keys_of (pairs_of t)) ∙ ap length ks in
-      answers order total hashed alike t (pairs_of t) (λ s. s) (λ s h. omega (arith, count)) (λ s h. ap (λ l. nth l s) (sym ks)) (λ s h. ap (λ l. slice_get l s) (sym vs))
+      answers order total hashed alike t (pairs_of t) (λ s. s) (λ s h. omega (arith, count)) (λ s h. ap (λ l. nth l s) (sym ks))
+      (λ s h. ap (λ l. slice_get l s) (sym vs))
       (λ j h. (j, refl, subst (λ l. slot_of_key hashed t (nth l j) ≡ Some j) (sym ks) (home j (omega (arith, count))))) q
 
   module _ (pairs : List (Bytes × Bytes)) (ds : List (ℕ × ℕ)) (places : List ℕ) (placement : IsPlacement order hashed (keys_of pairs) ds places)
@@ -113,7 +115,8 @@ module _ (order : Bytes → Bytes → Ordering) (total : IsTotalOrder order) (ha
         let n : ℕ = length ks in
         let few : length (map pair (range_with_len 0 n)) ≡ length pairs = length-map-range_with_len pair 0 n ∙ length-keys_of pairs in
         let all : map pair (range_with_len 0 n) ≡ pairs = same_lists (map pair (range_with_len 0 n)) pairs few (λ k d h.
-        get_or-map-range_with_len pair 0 n k k d (omega (arith, h, length-map-range_with_len pair 0 n)) (zero-add k) ∙ pair_is pairs k d (omega (arith, h, few))) in
+        let below : k < n = omega (arith, h, length-map-range_with_len pair 0 n) in
+        get_or-map-range_with_len pair 0 n k k d below (zero-add k) ∙ pair_is pairs k d (omega (arith, h, few))) in
         let arranged : map pair places ≡ pairs_of t = sym (zip_map (λ i. nth ks i) (λ i. nth vs i) places)
         ∙ (ap (λ l. zip l (permuted vs places)) (sym keys) ∙ ap (λ l. zip t.keys l) (sym values)) in
         subst (λ l. IsPermutation l (pairs_of t)) all
@@ -131,10 +134,11 @@ module _ (order : Bytes → Bytes → Ordering) (total : IsTotalOrder order) (ha
     }
 
 -- what is made of lists that hold the pairs' keys and values
-pub table_or_memory : (order : Bytes → Bytes → Ordering) → IsTotalOrder order → (hashed : List ℕ → List ℕ) → ((a b : Bytes) → order a b ≡ Equal → hashed a ≡ hashed b)
+pub table_or_memory : (order : Bytes → Bytes → Ordering) → IsTotalOrder order → (hashed : List ℕ → List ℕ) → AreHashedAlike order hashed
     → (pairs : List (Bytes × Bytes)) (fits : Bool) → length pairs < 2 ^ 32 → fits ≡ true → (ds : List (ℕ × ℕ)) (places : List ℕ) (seen kept values : List Bytes)
     → seen ≡ keys_of pairs → kept ≡ keys_of pairs → values ≡ values_of pairs → IsPlacement order hashed seen ds places → (r : Result Table HashError)
-    → IfOk r (λ t. t.displacements ≡ ds) → IfOk r (λ t. t.keys ≡ permuted kept places) → IfOk r (λ t. t.values ≡ permuted values places) → IfErr r (λ e. e ≡ Memory)
+    → IfOk r (λ t. t.displacements ≡ ds) → IfOk r (λ t. t.keys ≡ permuted kept places) → IfOk r (λ t. t.values ≡ permuted values places)
+    → IfErr r (λ e. e ≡ Memory)
     → MatchResult r (IsTableOf order hashed fits pairs) (IsNoTable order hashed fits pairs)
 table_or_memory order total hashed alike pairs fits few taken ds places seen kept values is_seen is_kept are_values placement (Ok t) d k v m =
     built order total hashed alike t pairs ds places (subst (λ l. IsPlacement order hashed l ds places) is_seen placement) d

@@ -1,5 +1,6 @@
 -- What is found in a table's slots is what a look-up in a list of pairs finds.
-use Rattle.std.proofs.Common.{◌≡◌, ℕ, zero, suc, ◌<◌, ◌⊎◌, inl, inr, Bool, true, false, cond, List, [], ◌∷◌, length, Option, Some, None, refl, sym, ◌∙◌, ap, arith}
+use Rattle.std.proofs.Common.{◌≡◌, ℕ, zero, suc, ◌<◌, ◌⊎◌, inl, inr, Bool, true, false, cond, List, [], ◌∷◌, length, Option, Some, None}
+use Rattle.std.proofs.Common.{refl, sym, ◌∙◌, ap, arith}
 use Rattle.std.specs.BTreeMap.{is_at}
 use Rattle.std.specs.Cmp.{IsTotalOrder, Equal-is}
 use Rattle.std.specs.List.{slice_get}
@@ -50,8 +51,13 @@ reversed Less x = refl
 reversed Equal x = refl
 reversed Greater x = refl
 
-module _ (order : Bytes → Bytes → Ordering) (total : IsTotalOrder order) (hashed : List ℕ → List ℕ) (alike : (a b : Bytes) → order a b ≡ Equal → hashed a ≡ hashed b) where
-  same_slot : (ds : List (ℕ × ℕ)) (n : ℕ) (q k : Bytes) → is_at (order q) k ≡ true → slot_of_hash ds n (key_hash hashed q) ≡ slot_of_hash ds n (key_hash hashed k)
+-- keys that compare Equal are hashed alike
+abbrev pub AreHashedAlike : (Bytes → Bytes → Ordering) → (List ℕ → List ℕ) → Type 0
+AreHashedAlike order hashed = (a b : Bytes) → order a b ≡ Equal → hashed a ≡ hashed b
+
+module _ (order : Bytes → Bytes → Ordering) (total : IsTotalOrder order) (hashed : List ℕ → List ℕ) (alike : AreHashedAlike order hashed) where
+  same_slot : (ds : List (ℕ × ℕ)) (n : ℕ) (q k : Bytes) → is_at (order q) k ≡ true
+      → slot_of_hash ds n (key_hash hashed q) ≡ slot_of_hash ds n (key_hash hashed k)
   same_slot ds n q k e = ap (λ b. slot_of_hash ds n (xxh64 0xAABBCCDD b)) (alike q k (equal_if (order q k) e))
 
   flipped : (k q : Bytes) (x : Option Bytes) → match_ordering (order k q) None x None ≡ cond (is_at (order q) k) x None
@@ -59,7 +65,8 @@ module _ (order : Bytes → Bytes → Ordering) (total : IsTotalOrder order) (ha
 
   -- a table answers as a list of pairs does where each pair's key leads to a slot that has it
   module _ (t : Table) (es : List (Bytes × Bytes)) (at : ℕ → ℕ) (within : (s : ℕ) → s < length t.keys → at s < length es)
-      (key : (s : ℕ) → s < length t.keys → nth t.keys s ≡ nth (keys_of es) (at s)) (value : (s : ℕ) → s < length t.keys → slice_get t.values s ≡ slice_get (values_of es) (at s))
+      (key : (s : ℕ) → s < length t.keys → nth t.keys s ≡ nth (keys_of es) (at s))
+      (value : (s : ℕ) → s < length t.keys → slice_get t.values s ≡ slice_get (values_of es) (at s))
       (home : (j : ℕ) → j < length es → (s : ℕ) × (at s ≡ j) × (slot_of_key hashed t (nth (keys_of es) j) ≡ Some s)) where
     leads : (q : Bytes) (o : Option ℕ) → slot_of_key hashed t q ≡ o → found_in order t q o ≡ lookup (is_at (order q)) es
     leads q None e = sym (none_passes (is_at (order q)) es (λ j h passes.

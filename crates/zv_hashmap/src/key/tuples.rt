@@ -126,7 +126,8 @@ impl<A: FixedKey, B: FixedKey, C: FixedKey, D: FixedKey> HashBytes for (A, B, C,
 }
 
 impl<A: FixedKey, B: FixedKey, C: FixedKey, D: FixedKey> FixedKey for (A, B, C, D) {
-    ghost hashed_value = { hashed_four A.hashed_value B.hashed_value C.hashed_value D.hashed_value };
+    ghost hashed_value = { hashed_four A.hashed_value B.hashed_value C.hashed_value
+        D.hashed_value };
 
     #[inline]
     fn hash_value(self, hasher: &mut XxHash64) {

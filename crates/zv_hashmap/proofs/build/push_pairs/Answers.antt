@@ -12,7 +12,8 @@ returns-in_err-zvl_push-clause-rule g c =
     let p = err_from_is_err_and c.from_residual-in_err-zvl_push.result c.from_residual-in_err-zvl_push.ensures.1 in
     by_rule c.from_residual-in_err-zvl_push.result _ _ c.in_err-zvl_push.field-0.0 (p.1 ∙ ap Err p.2)
     (λ r. keys_refused f h ps g.C.ZvContainer.takes_insert g.D.ZvContainer.takes_insert
-    (not_taken g.C.ZvContainer.takes_insert f ps _ c.loop-pair.pair-index c.loop-pair.invariant.key_rule c.pair-item.result c.loop-pair-test.true c.pair-item.is r))
+    (not_taken g.C.ZvContainer.takes_insert f ps _ c.loop-pair.pair-index c.loop-pair.invariant.key_rule c.pair-item.result
+    c.loop-pair-test.true c.pair-item.is r))
     c.in_err-zvl_push.ensures.refused
 
 pub returns-in_err-zvl_push-2-clause-rule : goal.returns-in_err-zvl_push-2-clause-rule
@@ -23,7 +24,8 @@ returns-in_err-zvl_push-2-clause-rule g c =
     let p = err_from_is_err_and c.from_residual-in_err-zvl_push-2.result c.from_residual-in_err-zvl_push-2.ensures.1 in
     by_rule c.from_residual-in_err-zvl_push-2.result _ _ c.in_err-zvl_push-2.field-0.0 (p.1 ∙ ap Err p.2)
     (λ r. values_refused f h ps g.C.ZvContainer.takes_insert g.D.ZvContainer.takes_insert
-    (not_taken g.D.ZvContainer.takes_insert h ps _ c.loop-pair.pair-index c.loop-pair.invariant.value_rule c.pair-item.result c.loop-pair-test.true c.pair-item.is r))
+    (not_taken g.D.ZvContainer.takes_insert h ps _ c.loop-pair.pair-index c.loop-pair.invariant.value_rule c.pair-item.result
+    c.loop-pair-test.true c.pair-item.is r))
     c.in_err-zvl_push-2.ensures.refused
 
 pub returns-clause-keys : goal.returns-clause-keys

@@ -13,8 +13,10 @@ invariant_of-result g c =
     let places : List ℕ = c.deref.result.now in
     let long : length places ≡ length ks = ap length c.deref.ensures.value
     ∙ (length_permutation (range_with_len 0 (length ks)) c.args.placement.reverse_mapping.items c.requires.places ∙ length-range_with_len 0 (length ks)) in
-    let keys : length (g.C.ZeroVecLike.list c.permute_both.new.keys) ≡ length ks = ap length c.in-Ok.ensures.keys ∙ (length-map places (λ i. nth ks i) ∙ long) in
-    let values : length (g.D.ZeroVecLike.list c.permute_both.new.values) ≡ length ks = ap length c.in-Ok.ensures.values ∙ (length-map places (λ i. nth vs i) ∙ long) in
+    let keys : length (g.C.ZeroVecLike.list c.permute_both.new.keys) ≡ length ks =
+    ap length c.in-Ok.ensures.keys ∙ (length-map places (λ i. nth ks i) ∙ long) in
+    let values : length (g.D.ZeroVecLike.list c.permute_both.new.values) ≡ length ks =
+    ap length c.in-Ok.ensures.values ∙ (length-map places (λ i. nth vs i) ∙ long) in
     let displacements : length c.in-Ok-alloc_from_slice.displacements.values ≡ length ks =
     ap length c.in-Ok-alloc_from_slice.ensures.values ∙ (ap length c.deref-2.ensures.value ∙ c.requires.displacements) in
     record {

@@ -29,4 +29,5 @@ pub returns-clause-within : goal.returns-clause-within
 returns-clause-within g c =
     let count : c.zvl_len-count.result ≡ length c.args.self.now.keys = c.zvl_len-count.ensures ∙ ap (λ (t : Table). length t.keys) c.self.view_is in
     subst (λ n. IfSome c.compute_index.result (λ s. s < n)) count
-    (index_below c.compute_index.result (c.split_hash64-bucket.result.1, c.split_hash64-bucket.result.2) c.at.result c.zvl_len-count.result c.compute_index.ensures)
+    (index_below c.compute_index.result (c.split_hash64-bucket.result.1, c.split_hash64-bucket.result.2) c.at.result c.zvl_len-count.result
+    c.compute_index.ensures)
