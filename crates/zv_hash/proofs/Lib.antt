@@ -6,3 +6,5 @@ mod Links
 mod Choices
 mod Fillings
 mod Decide
+mod Stuck
+mod Permutations

@@ -2,19 +2,25 @@
 ghost use Rattle.std.specs.Prelude.{◌≡◌};
 
 use std::alloc::AllocError;
+use thiserror::Error;
 
 /// Why there is no table. The causes stand in the order in which they are looked for.
-#[derive(Clone, Copy, Debug, PartialEq, Eq)]
+#[derive(Clone, Copy, Debug, PartialEq, Eq, Error)]
 pub enum HashError {
     /// There are 2^32 keys or more.
+    #[error("too many keys")]
     TooMany,
     /// A vector of the keys or the values would be too large.
+    #[error("too large")]
     TooLarge,
-    /// A key repeats: the first place whose key stands at an earlier place, and that place.
+    /// A key repeats: `second` is the least place whose key stands at an earlier one, `first`.
+    #[error("key {second} repeats key {first}")]
     Repeated { first: usize, second: usize },
     /// No displacement sends the hashes of this bucket to free slots.
+    #[error("no displacement fits bucket {bucket}")]
     NoPlace { bucket: usize },
     /// No memory was given.
+    #[error("out of memory")]
     Memory,
 }
 

@@ -1,4 +1,6 @@
 // What the definitions say of worked lists.
+ghost use Rattle.std.specs.Prelude.{◌≡◌, ℕ, List};
+ghost use Rattle.zv_hash.specs.Placement.{Chosen, IsStuck};
 ghost use Rattle.zv_hash.specs.Rows.{EqualHashes, HigherFirst, IndexOfNone, IndexOfParts};
 ghost use Rattle.zv_hash.specs.Rows.{IndexWraps, KeyHashes, LargerFirst, OneBucket, OneHash};
 ghost use Rattle.zv_hash.specs.Rows.{SameSlot, SplitInThree, TenKeys, ThreeKeys};
@@ -23,4 +25,13 @@ pub fn worked_placements()
     ensures key_hashes { KeyHashes }
     ensures three_keys { ThreeKeys }
     ensures ten_keys { TenKeys }
+{}
+
+/// Hashes have a placement or a bucket that is stuck, and never both:
+///
+/// - `none`: where a bucket is stuck, no displacements are those of a placement;
+/// - `one`: one bucket alone is stuck.
+pub fn stuck_bucket()
+    ensures none { (hs : List ℕ) (ds : List (ℕ × ℕ)) (g : ℕ) → Chosen hs ds → IsStuck hs g → ⊥ }
+    ensures one { (hs : List ℕ) (g h : ℕ) → IsStuck hs g → IsStuck hs h → g ≡ h }
 {}

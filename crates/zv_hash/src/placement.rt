@@ -1,6 +1,7 @@
 // The placement of hashes in slots.
 ghost use Rattle.std.specs.Prelude.{◌≡◌, ℕ, ◌+◌, ◌<◌, ◌≤◌, ◌^◌, ◌⊎◌, MatchResult, length};
-ghost use Rattle.std.specs.Prelude.{replicate};
+ghost use Rattle.std.specs.Prelude.{replicate, IfOk, IsPermutation, OnOk};
+ghost use Rattle.std.specs.List.{range_with_len};
 ghost use Rattle.std.specs.Prelude.{slice_index, vec_len};
 ghost use Rattle.zv_hash.specs.Chains.{FitsFree};
 ghost use Rattle.zv_hash.specs.Filling.{Filled};
@@ -137,10 +138,13 @@ fn place_all(
 /// Hashes whose buckets find one soon take time about linear in their number. Hashes that are
 /// equal are tried with every displacement before `NoPlace` comes.
 pub fn compute_displacements(alloc: Global, key_hashes: &[u64]) -> Result<Placement, HashError>
-    ensures { let hs = key_hashes.now in MatchResult result
+    ensures placed { let hs = key_hashes.now in MatchResult result
         (λ p. Chosen hs p.displacements.items × Placed hs p.displacements.items
         p.reverse_mapping.items × (length hs < 2 ^ 32))
         (IsRefusal hs) }
+    ensures unstuck { OnOk result ((g : ℕ) → IsStuck key_hashes.now g → ⊥) }
+    ensures permutation { IfOk result (λ p. IsPermutation
+        (range_with_len 0 (length key_hashes.now)) p.reverse_mapping.items) }
 {
     let count = key_hashes.len();
     if count > u32::MAX as usize {

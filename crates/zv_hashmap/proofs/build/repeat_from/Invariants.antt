@@ -1,0 +1,6 @@
+use Rattle.zv_hashmap.specs.Building.{AreApartBelow}
+use Rattle.zv_map.specs.Views.{list_of}
+use Rattle.zv_hashmap.proofs.build.repeat_from.Given as goal
+
+abbrev pub invariant-loop-second : goal.invariant-loop-second
+invariant-loop-second g l = AreApartBelow g.K.ZvOrd.cmp (list_of l.keys) l.second

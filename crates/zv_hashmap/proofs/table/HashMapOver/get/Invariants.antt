@@ -1,0 +1,4 @@
+use Rattle.zv_hashmap.proofs.table.HashMapOver.get.Given as goal
+
+abbrev pub ghosts-get_from : goal.ghosts-get_from
+ghosts-get_from g a = record { name = a.blank.name; parts = a.blank.parts }

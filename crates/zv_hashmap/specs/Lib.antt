@@ -1,0 +1,4 @@
+pub mod Building
+pub mod Hashed
+pub mod Laws
+pub mod Table
