@@ -10,11 +10,18 @@ use zv_map::ZeroVecSearch;
 use zv_owned::VarZeroVec16;
 use zv_ule::{Steps, StrULE, ZvArg, ZvOrdArg};
 
-// A text that counts how often it is compared.
+/// A text that counts how often it is compared.
 #[derive(Drop)]
 pub(crate) struct CountingKey<'c> {
     pub(crate) text: &'c str,
     pub(crate) count: &'c Cell<usize>,
+}
+
+impl<'c> CountingKey<'c> {
+    /// A text, whose comparisons are added to a count.
+    pub fn new(text: &'c str, count: &'c Cell<usize>) -> Self {
+        CountingKey { text, count }
+    }
 }
 
 impl ZvArg<StrULE> for CountingKey<'_> {

@@ -2,6 +2,8 @@
 #![tactic(auto)]
 
 #[cfg(test)]
+mod appends;
+#[cfg(test)]
 mod containers;
 #[cfg(test)]
 mod counted;
@@ -15,6 +17,8 @@ mod formats;
 mod hashes;
 #[cfg(test)]
 mod lists;
+#[cfg(test)]
+mod look_ups;
 #[cfg(test)]
 mod maps;
 #[cfg(test)]

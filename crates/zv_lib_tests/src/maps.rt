@@ -7,11 +7,12 @@ use zv_map::{MutableZeroVecLike, ZvContainer};
 use zv_map2d::{Iter1, Map2dError, Map2dOver, ZeroMap2d};
 use zv_ule::{SliceULE, StrULE, VarBox, VarRef};
 
-type Texts<'a> = ZeroMap2d<'a, u16, StrULE, StrULE>;
+/// A map from a number and a text to a text.
+pub type Texts<'a> = ZeroMap2d<'a, u16, StrULE, StrULE>;
 
-// A change of a map: a new pair of keys and its value, or a pair that goes and the value that it
-// had.
-enum Change<'t> {
+/// A change of a map: a new pair of keys and its value, or a pair that goes and the value that it
+/// had.
+pub enum Change<'t> {
     Put(u16, &'t str, &'t str),
     Take(u16, &'t str, &'t str),
 }
@@ -50,8 +51,8 @@ fn take<
     Ok(old.is_some_and(|old| *old.as_bytes() == *value.as_bytes()))
 }
 
-// Makes changes, one after another.
-fn make_changes<
+/// Makes changes, one after another.
+pub fn make_changes<
     'a,
     C0: MutableZeroVecLike<'a, u16> + Drop,
     C1: MutableZeroVecLike<'a, StrULE> + Drop,
@@ -95,8 +96,8 @@ fn are_pairs(rt: &impl Abort, found: Option<Iter1<'_, StrULE, StrULE>>, pairs: &
     }
 }
 
-// The rows 3, 6 and 7.
-fn has_three_rows<C0: ZvContainer<u16>, C1: ZvContainer<StrULE>, D: ZvContainer<StrULE>>(
+/// The rows 3, 6 and 7.
+pub fn has_three_rows<C0: ZvContainer<u16>, C1: ZvContainer<StrULE>, D: ZvContainer<StrULE>>(
     rt: &impl Abort,
     map: &Map2dOver<'_, u16, StrULE, StrULE, C0, C1, D>,
 ) {
@@ -126,7 +127,8 @@ const FIRST: [Change<'static>; 7] = [
     Change::Put(9, "yyy", "YYY"),
 ];
 
-const THEN: [Change<'static>; 8] = [
+/// Changes that leave the rows 3, 6 and 7.
+pub const THEN: [Change<'static>; 8] = [
     Change::Put(3, "mmm", "MM0"),
     Change::Put(6, "ddd", "DD3"),
     Change::Put(6, "mmm", "MM1"),

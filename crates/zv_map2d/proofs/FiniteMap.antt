@@ -3,7 +3,7 @@ use Rattle.std.proofs.Common.{◌≡◌, ◌<◌, Bool, true, false, ◌&&◌, c
 use Rattle.std.specs.Bool.{⊤}
 use Rattle.std.specs.Cmp.{IsTotalOrder, tied_itself}
 use Rattle.std.specs.List.{AllByRecursion}
-use Rattle.std.specs.Option.{option_and_then, unwrap_or}
+use Rattle.std.specs.Option.{option_and_then, option_or, unwrap_or}
 use Rattle.std.specs.Ordering.{is_eq}
 use Rattle.std.specs.declared.cmp.Ordering.{Ordering}
 use Rattle.std.specs.declared.cmp.Ordering.TheVariants.{Equal}
@@ -11,6 +11,7 @@ use Rattle.zv_map.proofs.Places.{equal_of, look_up-insert_entry, look_up-without
 use Rattle.zv_map.specs.Maps.{IsMap, keys_of, values_of, look_up, insert_entry, without_key}
 use Rattle.zv_ule.specs.Kinds.{EqualIsSame}
 use Rattle.zv_ule.specs.declared.error.UleError.{UleError}
+use Rattle.zv_map2d.specs.Appending.{KeepsLast, Triple, last_given, put_all}
 use Rattle.zv_map2d.specs.FiniteMap.{PutIsFound, PutLeavesOthers, DelIsGone, DelLeavesOthers, FoundAlike, FoundInRow, IsElementOf}
 use Rattle.zv_map2d.specs.Keys.{Bytes}
 use Rattle.zv_map2d.specs.Rows.{Rows, IsRow, IsWell, seconds, row, find, put, with_row, del}
@@ -129,3 +130,27 @@ found_in_row order0 order1 m k0 k1 =
     let by : (o : Option (List (Bytes × Bytes))) → look_up order1 (unwrap_or o []) k1 ≡ option_and_then (λ r. look_up order1 r k1) o =
     elim [ None ↦ refl | Some r ↦ refl ] in
     by (look_up order0 m k0)
+
+-- ---- puts, one after another
+
+or_cond : {X : Type 0} (o : Option X) (b : Bool) (x : X) (p : Option X) → option_or o (cond b (Some x) p) ≡ option_or (option_or o (cond b (Some x) None)) p
+or_cond (Some y) b x p = refl
+or_cond None true x p = refl
+or_cond None false x p = refl
+
+-- a pair of keys has the last value that was given, or what it had
+last_or : {order0 order1 : Bytes → Bytes → Ordering} → IsTotalOrder order0 → IsTotalOrder order1 → (m : Rows) (ts : List Triple) (k0 k1 : Bytes) →
+    find order0 order1 (put_all order0 order1 m ts) k0 k1 ≡ option_or (last_given order0 order1 ts k0 k1) (find order0 order1 m k0 k1)
+last_or total0 total1 m [] k0 k1 = refl
+last_or {order0} {order1} total0 total1 m (t ∷ ts) k0 k1 =
+    let later = last_given order0 order1 ts k0 k1 in
+    last_or total0 total1 (put order0 order1 m t.0 t.1 t.2) ts k0 k1
+    ∙ (ap (option_or later) (find-put total0 total1 m t.0 t.1 k0 k1 t.2)
+    ∙ or_cond later (is_eq (order0 t.0 k0) && is_eq (order1 t.1 k1)) t.2 (find order0 order1 m k0 k1))
+
+or_none : {X : Type 0} (o : Option X) → option_or o None ≡ o
+or_none None = refl
+or_none (Some x) = refl
+
+pub keeps_last : KeepsLast
+keeps_last order0 order1 total0 total1 ts k0 k1 = last_or total0 total1 [] ts k0 k1 ∙ or_none (last_given order0 order1 ts k0 k1)

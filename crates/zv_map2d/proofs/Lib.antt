@@ -1,4 +1,5 @@
 pub mod Bounds
+pub mod Ends
 pub mod FiniteMap
 pub mod Fitting
 pub mod Flat

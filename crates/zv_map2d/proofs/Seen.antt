@@ -2,11 +2,14 @@
 use Rattle.std.proofs.Common.{◌≡◌, ℕ, suc, ◌+◌, ◌-◌, ◌<◌, ◌≤◌, Bool, List, [], length, get_or, slice_index, slice_range, take, zip, IsTrue}
 use Rattle.std.proofs.Common.{Result, refl, sym, ◌∙◌, ap, subst, arith, zero-add}
 use Rattle.std.proofs.lemmas.List.{length-map, take-take, take_all}
+use Rattle.std.proofs.lemmas.Option.{slice_get-get_or}
+use Rattle.std.proofs.Common.{Some}
 use Rattle.std.specs.List.{flat_map, slice_get}
 use Rattle.std.specs.declared.cmp.Ordering.{Ordering}
 use Rattle.zv_map.proofs.Places.{compared_range}
 use Rattle.zv_map.specs.Maps.{keys_of, values_of}
 use Rattle.zv_ule.specs.Search.{compared, Found}
+use Rattle.zv_map2d.specs.Appending.{last_key}
 use Rattle.zv_map2d.specs.Keys.{Bytes, Order}
 use Rattle.zv_map2d.specs.Rows.{Rows, firsts, seconds, values, ends, IsFlat, IsWell, before, row_at, rows_of}
 use Rattle.zv_map2d.specs.Views.{AreColumns, Map2d, Vector}
@@ -94,6 +97,16 @@ module _ {k0s : List Bytes} {es : List ℕ} {k1s vs : List Bytes} {m : Rows} (s 
   -- how many pairs lie between its ends
   pub row_size : (i start end : ℕ) → i < length m → start ≡ before m i → end ≡ before m (suc i) → end - start ≡ length (row_at m i)
   row_size i start end h a b = omega (arith, a, b, before_suc m i h)
+
+  -- the last second key of a row
+  pub last_of_row : (i at : ℕ) → i < length m → 0 < length (row_at m i) → at + 1 ≡ before m (suc i) →
+      slice_get k1s at ≡ Some (last_key (keys_of (row_at m i)))
+  last_of_row i at h some e =
+      let ks = keys_of (row_at m i) in
+      let many : length ks ≡ length (row_at m i) = length-map (row_at m i) (λ p. p.0) in
+      let place : at ≡ before m i + (length ks - 1) = omega (arith, before_suc m i h, e, some, many) in
+      rw (place, s.seconds_are)
+      (get_pair (λ p. p.0) m i h (length ks - 1) (omega (arith, some, many)) ∙ slice_get-get_or ks (length ks - 1) [] (omega (arith, some, many)))
 
   -- what a search of the first keys found
   pub found_row : (order : Bytes → Bytes → Ordering) (key : Bytes) (r : Result ℕ ℕ) → Found (compared order k0s key) r → Found (compared order (firsts m) key) r

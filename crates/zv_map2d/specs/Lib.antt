@@ -1,3 +1,4 @@
+pub mod Appending
 pub mod Borrowed
 pub mod Bounds
 pub mod Causes

@@ -7,6 +7,7 @@ ghost use Rattle.zv_ule.specs.Search.{AtMostDigits, IsGap, compared};
 ghost use Rattle.zv_ule.specs.Views.{element_of};
 ghost use Rattle.zv_map.specs.Maps.{IsAt, keys_of, values_of};
 ghost use Rattle.zv_map.specs.Views.{list_of};
+ghost use Rattle.zv_map2d.specs.Appending.{last_key};
 ghost use Rattle.zv_map2d.specs.Bounds.{AtMostDigitsOf};
 ghost use Rattle.zv_map2d.specs.Keys.{nth};
 ghost use Rattle.zv_map2d.specs.Rows.{IsFlat, IsWell, IsWell-prop, before, find, firsts, row};
@@ -32,8 +33,8 @@ pub struct ZeroMap2dBorrowed<'a, K0: ZvOrd, K1: ZvOrd, V: ZvKind> {
     pub(crate) values: KvSlice<'a, V>,
     pub ghost flat: { IsFlat (list_of keys0) (values_in joiner) (list_of keys1) (list_of values)
         (rows_of (list_of keys0) (values_in joiner) (list_of keys1) (list_of values)) },
-    pub ghost well: { IsWell K0.cmp K1.cmp
-        (rows_of (list_of keys0) (values_in joiner) (list_of keys1) (list_of values)) } by { IsWell-prop _ _ _ },
+    pub ghost well: { IsWell K0.cmp K1.cmp (rows_of (list_of keys0)
+        (values_in joiner) (list_of keys1) (list_of values)) } by { IsWell-prop _ _ _ },
 }
 
 impl<K0: ZvOrd, K1: ZvOrd, V: ZvKind> Copy for ZeroMap2dBorrowed<'_, K0, K1, V> {}
@@ -162,6 +163,22 @@ impl<'a, K0: ZvOrd, K1: ZvOrd, V: ZvKind> ZeroMap2dBorrowed<'a, K0, K1, V> {
         ensures { element_of result ≡ nth (firsts (rows_in self.now)) row }
     {
         self.keys0.at(row)
+    }
+
+    /// How many pairs the row has.
+    pub(crate) fn row_len(&self, row: usize) -> usize
+        requires { row < length (rows_in self.now) }
+        ensures { result ≡ length (row_at (rows_in self.now) row) }
+    {
+        self.row_end(row) - self.row_start(row)
+    }
+
+    /// The last second key of the row.
+    pub(crate) fn last_key_of(&self, row: usize) -> VarRef<'a, K1>
+        requires { row < length (rows_in self.now) }
+        ensures { element_of result ≡ last_key (keys_of (row_at (rows_in self.now) row)) }
+    {
+        self.keys1.at(self.row_end(row) - 1)
     }
 
     /// The value of a pair of the row.

@@ -389,7 +389,7 @@ impl<
     }
 
     /// Puts a value for a new pair of keys at its place.
-    fn insert_at<Q0: ZvOrdArg<K0>, Q1: ZvOrdArg<K1>, R: ZvArg<V>>(
+    pub(crate) fn insert_at<Q0: ZvOrdArg<K0>, Q1: ZvOrdArg<K1>, R: ZvArg<V>>(
         &mut self,
         alloc: Global,
         place: Place,

@@ -1,4 +1,5 @@
 // What images and changes mean: worked ones, and laws.
+ghost use Rattle.zv_map2d.specs.Appending.{KeepsLast};
 ghost use Rattle.zv_map2d.specs.Changes.{FirstPair, KeysThere, LongValues, MissingPair};
 ghost use Rattle.zv_map2d.specs.Changes.{NewFirstRow, NewPair, OneOfTwo, OnlyPair, OtherValue};
 ghost use Rattle.zv_map2d.specs.FiniteMap.{DelIsGone, DelIsWell, DelLeavesOthers, FoundAlike};
@@ -53,13 +54,15 @@ pub fn changes()
 {}
 
 /// A map in two levels is a finite map: what a pair has is what its second key has in the row of
-/// its first, after a put the pair has that value, after a removal it has none, any other pair has
-/// what it had, and maps in which the same is found are the same. It does nothing.
+/// its first, after a put the pair has that value, after puts the last that was given, after a
+/// removal it has none, any other pair has what it had, and maps in which the same is found are the
+/// same. It does nothing.
 pub fn finite_map()
     ensures row { FoundInRow }
     ensures put { PutIsFound }
     ensures put_others { PutLeavesOthers }
     ensures put_well { PutIsWell }
+    ensures last { KeepsLast }
     ensures del { DelIsGone }
     ensures del_others { DelLeavesOthers }
     ensures del_well { DelIsWell }

@@ -8,6 +8,7 @@
 //! containers.
 #![tactic(auto)]
 
+mod appending;
 pub mod borrowed;
 mod columns;
 mod copied;

@@ -1,0 +1,120 @@
+-- The end of a map, and maps that are made of pairs.
+use Rattle.std.proofs.Common.{◌≡◌, ◌⊎◌, ℕ, suc, ◌+◌, ◌-◌, ◌<◌, ◌≤◌, ◌&&◌, true, false, List, ◌∷◌, length, drop, get_or, Option, Some, None, Ok, Err}
+use Rattle.std.proofs.Common.{Result, IfErr, IfSome, is_some, is_none, inl, inr, refl, sym, ◌∙◌, ap, subst, arith}
+use Rattle.std.proofs.lemmas.List.{drop_more, length-map}
+use Rattle.std.specs.Cmp.{IsTotalOrder}
+use Rattle.std.specs.List.Sorted.{IsStrictlySortedBy}
+use Rattle.std.specs.Ordering.{is_gt, ordering_index, ordering_reverse}
+use Rattle.std.specs.declared.cmp.Ordering.{Ordering}
+use Rattle.std.specs.declared.cmp.Ordering.TheVariants.{Less, Equal, Greater}
+use Rattle.zv_map.proofs.Ascents.{compared_at, sorted_rises}
+use Rattle.zv_map.proofs.Places.{placed}
+use Rattle.zv_map.specs.Maps.{IsAt, keys_of}
+use Rattle.zv_ule.specs.Search.{IsGap, answer_at, compared}
+use Rattle.zv_map2d.specs.Appending.{first_refusal, is_above_key, put_all, written}
+use Rattle.zv_map2d.specs.Fits.{Rule, fits}
+use Rattle.zv_map2d.specs.Keys.{Bytes, Order, nth}
+use Rattle.zv_map2d.specs.Places.{IsPlace}
+use Rattle.zv_map2d.specs.Refusals.{IsRefusal, is_full}
+use Rattle.zv_map2d.specs.Rows.{Rows, IsWell, find, firsts, put, row_at}
+use Rattle.zv_map2d.specs.declared.error.Map2dError.{Map2dError}
+use Rattle.zv_map2d.specs.declared.error.Map2dError.TheVariants.{TooLarge, TooMany, Memory}
+use Rattle.zv_map2d.specs.declared.place.Place.{Place}
+use Rattle.zv_map2d.specs.declared.place.Place.TheVariants.{InRow, NewRow}
+use Rattle.zv_map2d.proofs.Flat.{row_well}
+
+index_less : (r : Ordering) → ordering_index r ≤ 0 → r ≡ Less
+index_less Less h = refl
+index_less Equal h = absurd (omega (arith, h))
+index_less Greater h = absurd (omega (arith, h))
+
+module _ {order : Order} (total : IsTotalOrder order) (k : Bytes) (ks : List Bytes) (up : IsStrictlySortedBy order ks) (i : ℕ) (last : suc i ≡ length ks) where
+  last_answer : (r : Ordering) → order k (nth ks i) ≡ r → answer_at (compared order ks k) i ≡ ordering_reverse r
+  last_answer r e = compared_at order k ks i (omega arith) ∙ (total.antisymm (nth ks i) k ∙ ap ordering_reverse e)
+
+  -- a key above the last has its gap at the end
+  pub gap_at_end : order k (nth ks i) ≡ Greater → IsGap (compared order ks k) (length ks)
+  gap_at_end e =
+      let many : length (compared order ks k) ≡ length ks = length-map ks (λ x. order x k) in
+      let below = last_answer Greater e in
+      record {
+        within = omega (arith, many);
+        less = λ j h. index_less _ (omega (
+          arith,
+          ap ordering_index below,
+          sorted_rises total k ks up j i (omega (arith, h, last)) (omega (arith, many, last)),
+        ));
+        greater = λ j h w. absurd (omega (arith, h, w, many));
+      }
+
+  -- and one that is the last stands there
+  pub at_end : order k (nth ks i) ≡ Equal → IsAt (compared order ks k) i
+  at_end e =
+      let many : length (compared order ks k) ≡ length ks = length-map ks (λ x. order x k) in
+      placed total k ks up (Ok i) (record { within = omega (arith, many, last); equal = last_answer Equal e })
+
+greater_of : (r : Ordering) → is_gt r ≡ true → r ≡ Greater
+greater_of Less e = cc
+greater_of Equal e = cc
+greater_of Greater e = refl
+
+module _ {order0 order1 : Order} (total0 : IsTotalOrder order0) (total1 : IsTotalOrder order1) (m : Rows) (k0 k1 : Bytes) (well : IsWell order0 order1 m)
+    (i : ℕ) (last : suc i ≡ length m) where
+  last_first : suc i ≡ length (firsts m)
+  last_first = last ∙ sym (length-map m (λ q. q.0))
+
+  -- a first key above the last has its row after all
+  pub new_row_at_end : (n : ℕ) → n ≡ length m → order0 k0 (nth (firsts m) i) ≡ Greater → IsPlace order0 order1 m k0 k1 (NewRow n)
+  new_row_at_end n is e =
+      subst (IsGap (compared order0 (firsts m) k0)) (length-map m (λ q. q.0) ∙ sym is) (gap_at_end total0 k0 (firsts m) well.0 i last_first e)
+
+  -- a second key above the last of the last row has its place there
+  pub pair_at_end : order0 k0 (nth (firsts m) i) ≡ Equal → is_above_key order1 (keys_of (row_at m i)) k1 ≡ true →
+      IsPlace order0 order1 m k0 k1 (InRow i (length (row_at m i)))
+  pair_at_end e above =
+      let row = row_well order1 m i well.1 (omega (arith, last)) in
+      let ks = keys_of (row_at m i) in
+      let many : length ks ≡ length (row_at m i) = length-map (row_at m i) (λ q. q.0) in
+      let end : suc (length ks - 1) ≡ length ks = omega (arith, row.0, many) in (
+        at_end total0 k0 (firsts m) well.0 i last_first e,
+        subst (IsGap (compared order1 ks k1)) many (gap_at_end total1 k1 ks row.1 (length ks - 1) end (greater_of _ above)),
+      )
+
+  pub some_at_end : (o : Option Place) → order0 k0 (nth (firsts m) i) ≡ Equal → is_some o ≡ is_above_key order1 (keys_of (row_at m i)) k1 →
+      IfSome o (λ p. p ≡ InRow i (length (row_at m i))) → IfSome o (IsPlace order0 order1 m k0 k1)
+  some_at_end None e above is = tt
+  some_at_end (Some p) e above is = subst (IsPlace order0 order1 m k0 k1) (sym is) (pair_at_end e (sym above))
+
+-- ---- triples that are left to be put
+
+module _ {A B C : Type 0} (key0 : A → Bytes) (key1 : B → Bytes) (value : C → Bytes) (rule : Rule) (order0 order1 : Order) (ts : List (A × B × C)) (i : ℕ)
+    (t : A × B × C) (h : i < length ts) (e : t ≡ get_or ts i t) (m : Rows) where
+  -- one, and the others
+  left_first : written key0 key1 value (drop i ts) ≡ (key0 t.0, key1 t.1, value t.2) ∷ written key0 key1 value (drop (i + 1) ts)
+  left_first = ap (written key0 key1 value) (drop_more ts i t h)
+      ∙ ap (λ (q : A × B × C). (key0 q.0, key1 q.1, value q.2) ∷ written key0 key1 value (drop (i + 1) ts)) (sym e)
+
+  pub put_first : put_all order0 order1 m (written key0 key1 value (drop i ts))
+      ≡ put_all order0 order1 (put order0 order1 m (key0 t.0) (key1 t.1) (value t.2)) (written key0 key1 value (drop (i + 1) ts))
+  put_first = ap (put_all order0 order1 m) left_first
+
+  -- a put that is taken leaves the refusals of the others
+  pub refusal_next : fits rule order0 order1 m (key0 t.0) (key1 t.1) (value t.2) ≡ true →
+      (is_none (find order0 order1 m (key0 t.0) (key1 t.1)) && is_full m) ≡ false →
+      first_refusal rule order0 order1 m (written key0 key1 value (drop i ts))
+      ≡ first_refusal rule order0 order1 (put order0 order1 m (key0 t.0) (key1 t.1) (value t.2)) (written key0 key1 value (drop (i + 1) ts))
+  refusal_next takes free = ap (first_refusal rule order0 order1 m) left_first ∙ rw (takes, free) refl
+
+  -- and one that is refused is the first
+  refusal_first : (error : Map2dError) (all : Option Map2dError) → first_refusal rule order0 order1 m (written key0 key1 value (drop i ts)) ≡ all →
+      IsRefusal (fits rule order0 order1 m (key0 t.0) (key1 t.1) (value t.2)) (is_none (find order0 order1 m (key0 t.0) (key1 t.1)) && is_full m) error →
+      (error ≡ Memory) ⊎ (all ≡ Some error)
+  refusal_first TooLarge all same r = inr (sym same ∙ (ap (first_refusal rule order0 order1 m) left_first ∙ rw r refl))
+  refusal_first TooMany all same r = inr (sym same ∙ (ap (first_refusal rule order0 order1 m) left_first ∙ rw (r.0, r.1) refl))
+  refusal_first Memory all same r = inl refl
+
+  pub refused_first : {X : Type 0} (result : Result X Map2dError) (error : Map2dError) (all : Option Map2dError) → result ≡ Err error →
+      first_refusal rule order0 order1 m (written key0 key1 value (drop i ts)) ≡ all →
+      IsRefusal (fits rule order0 order1 m (key0 t.0) (key1 t.1) (value t.2)) (is_none (find order0 order1 m (key0 t.0) (key1 t.1)) && is_full m) error →
+      IfErr result (λ e. (e ≡ Memory) ⊎ (all ≡ Some e))
+  refused_first result error all is same r = rw is (refusal_first error all same r)
