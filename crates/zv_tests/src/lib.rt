@@ -12,6 +12,8 @@ mod edit;
 #[cfg(test)]
 mod long_inputs;
 #[cfg(test)]
+mod looks;
+#[cfg(test)]
 mod runs;
 #[cfg(test)]
 mod worked;

@@ -1,6 +1,7 @@
 // Worked inputs, given to the program in pieces of several sizes.
 use crate::cases::{Case, cases};
 use crate::changes::changes;
+use crate::looks::looks;
 use crate::runs::{answer_of, failing_devices, join, memory_devices, words_of};
 use std::alloc::Global;
 use std::process::Abort;
@@ -81,6 +82,11 @@ fn try_cases(rt: &impl Abort, alloc: Global, cases: &[Case]) -> Result<(), Fail>
 #[test]
 fn each_input_is_answered(rt: HostRuntime) -> Result<(), Fail> {
     try_cases(&rt, rt.alloc(), cases())
+}
+
+#[test]
+fn each_look_up_is_answered(rt: HostRuntime) -> Result<(), Fail> {
+    try_cases(&rt, rt.alloc(), looks())
 }
 
 #[test]
