@@ -1,4 +1,4 @@
--- Lists that a size rule takes are refused another order for want of memory alone.
+-- Lists that a size rule takes are refused another order only where an allocation fails.
 use Rattle.std.proofs.Common.{◌≡◌, ℕ, Bool, true, List, [], length, Result, Ok, Err}
 use Rattle.std.specs.List.{range_with_len}
 use Rattle.std.specs.Prelude.{IfErr, IsPermutation}

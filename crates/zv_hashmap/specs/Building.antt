@@ -41,7 +41,7 @@ pub record IsPlacement (order : Bytes → Bytes → Ordering) (hashed : List ℕ
   pub placed : Placed (hashes_of hashed ks) ds places
   pub permutation : IsPermutation (range_with_len 0 (length ks)) places
 
--- why keys have no places: one repeats, or none does and a bucket is stuck, or for want of memory
+-- why keys have no places: one repeats, or none does and a bucket is stuck, or an allocation failed
 abbrev pub IsUnplaced : (Bytes → Bytes → Ordering) → (List ℕ → List ℕ) → List Bytes → HashError →
     Type 0
 IsUnplaced order hashed ks TooMany = ⊥
@@ -67,7 +67,7 @@ abbrev pub refusal_of : MapError → HashError
 refusal_of MapTooLarge = TooLarge
 refusal_of MapMemory = Memory
 
--- why pairs have no table: the first cause that holds, but want of memory may come at any point
+-- why pairs have no table: the first cause that holds, but an allocation may fail at any point
 abbrev pub IsNoTable : (Bytes → Bytes → Ordering) → (List ℕ → List ℕ) → Bool →
     List (Bytes × Bytes) → HashError → Type 0
 IsNoTable order hashed fits pairs TooMany = 2 ^ 32 ≤ length pairs

@@ -127,7 +127,7 @@ fn place_keys<K: HashBytes>(alloc: Global, keys: KvSlice<'_, K>) -> Result<Place
 }
 
 /// Puts the elements of two lists, which their size rules take, in another order. They are refused
-/// for want of memory alone, as the rules take them in any order.
+/// only where an allocation fails, as the rules take them in any order.
 fn permute_both<'a, K, V, C, D>(
     alloc: Global,
     keys: &mut C,
