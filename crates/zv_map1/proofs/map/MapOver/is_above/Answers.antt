@@ -13,14 +13,24 @@ returns-in-Some-clause-above g c =
     let k = g.Q.ZvArg.bytes c.args.key.now in
     c.is_gt.ensures ∙ (ap (λ (o : Ordering). is_gt o) c.t_cmp_get.ensures
     ∙ above_last g.met.K.ZvOrd.total m k (g.C.ZeroVecLike.list c.self.inside.keys) c.saturating_sub-last.result (element_of c.in-Some.element)
-    (keys_are c.self.view_is c.self.invariant) (omega (arith, c.saturating_sub-last.ensures, c.zvl_len.ensures, count_is c.self.view_is c.self.invariant)) c.in-Some.ensures)
+    (keys_are c.self.view_is c.self.invariant) (omega (
+      arith,
+      c.saturating_sub-last.ensures,
+      c.zvl_len.ensures,
+      count_is c.self.view_is c.self.invariant,
+    )) c.in-Some.ensures)
 
 pub returns-in-None-clause-above : goal.returns-in-None-clause-above
 returns-in-None-clause-above g c =
     let m = c.args.self.now.pairs in
     let k = g.Q.ZvArg.bytes c.args.key.now in
     above_none g.met.K.ZvOrd.total m k (g.C.ZeroVecLike.list c.self.inside.keys) c.saturating_sub-last.result
-    (keys_are c.self.view_is c.self.invariant) (omega (arith, c.saturating_sub-last.ensures, c.zvl_len.ensures, count_is c.self.view_is c.self.invariant)) c.in-None.ensures
+    (keys_are c.self.view_is c.self.invariant) (omega (
+      arith,
+      c.saturating_sub-last.ensures,
+      c.zvl_len.ensures,
+      count_is c.self.view_is c.self.invariant,
+    )) c.in-None.ensures
 
 pub returns-in-Some-clause-gap : goal.returns-in-Some-clause-gap
 returns-in-Some-clause-gap g c = λ yes.

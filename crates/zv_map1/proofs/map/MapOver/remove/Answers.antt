@@ -8,10 +8,14 @@ take_out-requires g c κs =
     ((refl, tt), at_within g.K.ZvOrd.cmp (g.Q.ZvArg.bytes c.args.key.now) c.args.self.now.pairs c.in-Ok.at c.in-Ok.ensures)
 
 pub returns-in_default-clause-pairs : goal.returns-in_default-clause-pairs
-returns-in_default-clause-pairs g c = sym (without_key_gap g.met.K.ZvOrd.total (g.Q.ZvArg.bytes c.args.key.now) c.args.self.now.pairs c.in_default.field-0 c.in_default.ensures)
+returns-in_default-clause-pairs g c =
+    sym (without_key_gap g.met.K.ZvOrd.total (g.Q.ZvArg.bytes c.args.key.now) c.args.self.now.pairs
+    c.in_default.field-0 c.in_default.ensures)
 
 pub returns-in_default-clause-before : goal.returns-in_default-clause-before
-returns-in_default-clause-before g c = sym (look_up_gap g.met.K.ZvOrd.total (g.Q.ZvArg.bytes c.args.key.now) c.args.self.now.pairs c.in_default.field-0 c.in_default.ensures)
+returns-in_default-clause-before g c =
+    sym (look_up_gap g.met.K.ZvOrd.total (g.Q.ZvArg.bytes c.args.key.now) c.args.self.now.pairs
+    c.in_default.field-0 c.in_default.ensures)
 
 pub returns-clause-pairs : goal.returns-clause-pairs
 returns-clause-pairs g c =

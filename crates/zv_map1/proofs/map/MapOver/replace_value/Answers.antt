@@ -27,6 +27,7 @@ returns-in_err-old g c = record {
   pairs = search rules;
   before = search rules;
   err = search rules;
-  refused = subst (λ (xs : List Bytes). TooLargeUnless (g.D.ZvContainer.takes_replace xs c.args.at (length (g.R.ZvArg.bytes c.args.value.now))) c.from_residual.result)
+  refused = subst (λ (xs : List Bytes). TooLargeUnless (g.D.ZvContainer.takes_replace xs c.args.at (length (g.R.ZvArg.bytes c.args.value.now)))
+      c.from_residual.result)
       (sym (values_are c.self.view_is c.self.invariant)) (search rules);
 }
