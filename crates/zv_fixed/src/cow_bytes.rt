@@ -7,6 +7,7 @@ ghost use Rattle.std.specs.List.{remove_range, splice};
 ghost use Rattle.zv_fixed.specs.CowBytes.{bytes_in, owned_in, spare_in, IsUnchanged};
 
 use std::alloc::Global;
+use zv_bytes::copy_bytes;
 use zv_ule::{NoMemory, ZvArg, ZvKind};
 
 /// Bytes that lie elsewhere, or in memory that is freed with them.
@@ -106,7 +107,7 @@ impl<'a> CowBytes<'a> {
             CowBytes::Owned(bytes) => {
                 bytes.truncate(end);
                 if start > 0 {
-                    bytes.copy_within(start.., 0);
+                    copy_bytes(bytes, start, end, 0);
                     bytes.truncate(end - start);
                 }
             }
@@ -226,8 +227,9 @@ impl<'a> CowBytes<'a> {
                 *self = CowBytes::Owned(with_gap(alloc, bytes, start, end, 0)?);
             }
             CowBytes::Owned(bytes) => {
-                bytes.copy_within(end.., start);
-                bytes.truncate(bytes.len() - (end - start));
+                let len = bytes.len();
+                copy_bytes(bytes, end, len, start);
+                bytes.truncate(len - (end - start));
             }
         }
         Ok(())
@@ -282,7 +284,7 @@ fn open_gap(bytes: &mut Vec<u8>, at: usize, count: usize) -> Result<(), NoMemory
     let len = bytes.len();
     bytes.reserve(count)?;
     let _ = bytes.resize(len + count, 0);
-    bytes.copy_within(at..len, at + count);
+    copy_bytes(bytes, at, len, at + count);
     Ok(())
 }
 

@@ -1,0 +1,10 @@
+use Rattle.std.proofs.Common.{◌≡◌, ◌+◌, ◌-◌, ◌≤◌, length}
+use Rattle.std.specs.List.{copy_within}
+use Rattle.zv_bytes.proofs.copy_up.Given as goal
+
+abbrev pub invariant-loop-at : goal.invariant-loop-at
+invariant-loop-at l = (l.from ≤ l.at) × (l.to + (l.at - l.from) ≤ length l.bytes)
+    × (copy_within l.bytes l.from l.at l.to ≡ copy_within l.initial.bytes l.from l.end l.to)
+
+abbrev pub decreases-loop-at : goal.decreases-loop-at
+decreases-loop-at l = l.at
