@@ -1,5 +1,4 @@
 pub mod Codable
-pub mod Copies
 pub mod Gaps
 pub mod Offsets
 pub mod Pushes

@@ -5,7 +5,6 @@
 //! [`Shelf`](shelf::Shelf) is a buffer of bytes that counts what is written into it.
 #![tactic(auto)]
 
-mod blocks;
 pub mod encoded;
 pub mod error;
 pub mod laws;

@@ -3,11 +3,11 @@ ghost use Rattle.std.specs.Prelude.{◌≡◌, ℕ, ◌+◌, ◌-◌, ◌<◌, �
 ghost use Rattle.std.specs.Prelude.{replicate, OnOk, OnErr, IsOk, IfOk};
 ghost use Rattle.std.specs.List.{copy_within, splice};
 
-use crate::blocks::copy_bytes;
 use std::alloc::Global;
 use std::marker::Model;
 use std::ops::Range;
 use std::sync::ledger::Ledger;
+use zv_bytes::copy_bytes;
 use zv_ule::{NoMemory, Steps};
 
 /// A buffer of bytes that knows how far it can grow without memory, and counts what is written into
