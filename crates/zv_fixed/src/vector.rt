@@ -56,6 +56,7 @@ impl<'a, T: AsULE> ZeroVec<'a, T> {
         ensures values { result.values ≡ [] }
         ensures bytes { result.bytes ≡ [] }
         ensures owned { result.owned ≡ false }
+        ensures spare { result.spare ≡ 0 }
     {
         ZeroVec {
             cow: CowBytes::Borrowed(&[]),

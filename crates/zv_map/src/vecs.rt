@@ -284,7 +284,8 @@ pub trait MutableZeroVecLike<'a, T: ZvKind>: ZvContainer<T> + Drop {
         requires { IsTrue T.usable }
         ensures list { Self.list result ≡ [] }
         ensures bytes { Self.bytes result ≡ [] }
-        ensures owned { Self.owned result ≡ false };
+        ensures owned { Self.owned result ≡ false }
+        ensures spare { Self.spare result ≡ 0 };
 
     /// The empty list, with room for so many elements whose lengths aren't known. It owns its bytes
     /// where that is one element at least.

@@ -72,6 +72,7 @@ impl<
         ensures keys { result.keys.bytes ≡ [] }
         ensures values { result.values.bytes ≡ [] }
         ensures owned { (result.keys.owned ≡ false) × (result.values.owned ≡ false) }
+        ensures spare { (result.keys.spare ≡ 0) × (result.values.spare ≡ 0) }
     {
         MapOver {
             keys: C::zvl_new(),

@@ -60,6 +60,11 @@ abbrev pub IsBorrowed : Map2d → Type 0
 IsBorrowed m = (m.keys0.owned ≡ false) × (m.joiner.owned ≡ false) × (m.keys1.owned ≡ false)
     × (m.values.owned ≡ false)
 
+-- no vector can grow without memory
+abbrev pub HasNoSpare : Map2d → Type 0
+HasNoSpare m = (m.keys0.spare ≡ 0) × (m.joiner.spare ≡ 0) × (m.keys1.spare ≡ 0)
+    × (m.values.spare ≡ 0)
+
 -- the same map in the same bytes, each vector borrowed or owned as it was
 pub record IsCopy (before after : Map2d) : Type 0 where
   pub rows : after.rows ≡ before.rows

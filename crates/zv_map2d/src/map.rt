@@ -9,7 +9,7 @@ ghost use Rattle.zv_map2d.specs.Room.{HasRoomFor, IsOwned, IsSameMap, SpendsFor}
 ghost use Rattle.zv_map2d.specs.Refusals.{RefusedUnless, is_full};
 ghost use Rattle.zv_map2d.specs.Rows.{IsWell, del, ends, find, firsts, put, seconds};
 ghost use Rattle.zv_map2d.specs.Rows.{values};
-ghost use Rattle.zv_map2d.specs.Views.{IsBorrowed, KeepsRoom, ReadsAs};
+ghost use Rattle.zv_map2d.specs.Views.{HasNoSpare, IsBorrowed, KeepsRoom, ReadsAs};
 ghost use Rattle.zv_map2d.specs.Views.{bytes_of, no_bytes, parts_of, written_parts};
 
 use crate::columns::Columns;
@@ -165,6 +165,7 @@ impl<
         ensures rows { result.rows ≡ [] }
         ensures parts { parts_of result ≡ no_bytes }
         ensures borrowed { IsBorrowed result }
+        ensures spare { HasNoSpare result }
     {
         Map2dOver {
             columns: Columns {

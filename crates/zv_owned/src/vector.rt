@@ -157,6 +157,7 @@ impl<'a, T: ZvKind, F: VarZeroVecFormat> VarZeroVec<'a, T, F> {
         ensures list { vector_list result ≡ [] }
         ensures bytes { vector_bytes result ≡ [] }
         ensures owned { vector_owned result ≡ false }
+        ensures spare { vector_spare result ≡ 0 }
     {
         VarZeroVec::new_borrowed(VarZeroSlice::of_valid(&[]))
     }
@@ -167,6 +168,7 @@ impl<'a, T: ZvKind, F: VarZeroVecFormat> VarZeroVec<'a, T, F> {
         ensures list { vector_list result ≡ list_of view.entry }
         ensures bytes { vector_bytes result ≡ bytes_of view.entry }
         ensures owned { vector_owned result ≡ false }
+        ensures spare { vector_spare result ≡ 0 }
     {
         VarZeroVec {
             view,
