@@ -1,5 +1,4 @@
 pub mod Ascents
-pub mod Elements
 pub mod FixedLists
 pub mod Permuted
 pub mod Places

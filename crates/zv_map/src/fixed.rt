@@ -67,7 +67,7 @@ fn value_at<T: AsULE>(list: &ZeroVec<'_, T>, index: usize) -> T
 impl<'a, T: AsULE> ZvContainer<T> for ZeroVec<'a, T> {
     ghost use Rattle.std.proofs.Common.{arith};
     ghost use Rattle.zv_owned.proofs.Pushes.{always_taken};
-    ghost use Rattle.zv_map.proofs.Elements.{chunks_valid};
+    ghost use Rattle.zv_map.specs.Elements.{chunks_valid};
     ghost use Rattle.zv_map.specs.Laws.{chunks_read, chunks_sound, is_fixed_self};
 
     type OwnedType = T;

@@ -125,7 +125,7 @@ fn encoding<T: ZvKind, F: MapForm>(bytes: &[u8]) -> &[u8]
 
 impl<'a, T: ZvKind, F: MapForm> ZvContainer<T> for VarZeroVec<'a, T, F> {
     ghost use Rattle.zv_owned.proofs.Pushes.{any_order};
-    ghost use Rattle.zv_map.proofs.Elements.{elements_valid};
+    ghost use Rattle.zv_map.specs.Elements.{elements_valid};
     ghost use Rattle.zv_map.specs.Laws.{encoding_reads, encoding_sound, form_has};
 
     type OwnedType = VarBox<T>;
