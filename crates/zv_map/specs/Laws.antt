@@ -49,7 +49,7 @@ is_fixed_self w = grind (arith, nat_tests)
 
 -- ---- elements of any length, with fields of w bytes
 
-no_fault : (o : Option VarZeroVecFormatError) → slice_fault o ≡ None → o ≡ None
+pub no_fault : (o : Option VarZeroVecFormatError) → slice_fault o ≡ None → o ≡ None
 no_fault None e = refl
 no_fault (Some x) e = cc
 

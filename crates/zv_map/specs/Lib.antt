@@ -1,3 +1,4 @@
+pub mod Elements
 pub mod Forms
 pub mod Iters
 pub mod Keys

@@ -67,6 +67,7 @@ fn value_at<T: AsULE>(list: &ZeroVec<'_, T>, index: usize) -> T
 impl<'a, T: AsULE> ZvContainer<T> for ZeroVec<'a, T> {
     ghost use Rattle.std.proofs.Common.{arith};
     ghost use Rattle.zv_owned.proofs.Pushes.{always_taken};
+    ghost use Rattle.zv_map.specs.Elements.{chunks_valid};
     ghost use Rattle.zv_map.specs.Laws.{chunks_read, chunks_sound, is_fixed_self};
 
     type OwnedType = T;
@@ -196,6 +197,8 @@ impl<'a, T: AsULE> ZvContainer<T> for ZeroVec<'a, T> {
     ghost own_form = { λ _. is_fixed_self T.ULE.width };
 
     ghost spelling_of_none = { refl };
+
+    ghost elements_valid = { chunks_valid T.ULE.chunk_fault T.ULE.TY T.ULE.width };
 
     ghost spelling_sound = { λ bytes _. chunks_sound T.ULE.TY T.ULE.width T.ULE.chunk_fault bytes };
 

@@ -125,6 +125,7 @@ fn encoding<T: ZvKind, F: MapForm>(bytes: &[u8]) -> &[u8]
 
 impl<'a, T: ZvKind, F: MapForm> ZvContainer<T> for VarZeroVec<'a, T, F> {
     ghost use Rattle.zv_owned.proofs.Pushes.{any_order};
+    ghost use Rattle.zv_map.specs.Elements.{elements_valid};
     ghost use Rattle.zv_map.specs.Laws.{encoding_reads, encoding_sound, form_has};
 
     type OwnedType = VarBox<T>;
@@ -262,6 +263,8 @@ impl<'a, T: ZvKind, F: MapForm> ZvContainer<T> for VarZeroVec<'a, T, F> {
     ghost own_form = { λ _. form_has F.FORM F.W F.form_width };
 
     ghost spelling_of_none = { refl };
+
+    ghost elements_valid = { elements_valid T.fault F.W F.width_positive };
 
     ghost spelling_sound = { λ bytes. encoding_sound F.W T.fault bytes F.width_positive };
 

@@ -3,7 +3,7 @@ ghost use Rattle.std.specs.Prelude.{◌≡◌, ℕ, ◌==◌, ◌||◌, ◌+◌,
 ghost use Rattle.std.specs.Prelude.{◌∷◌, ◌++◌};
 ghost use Rattle.std.specs.Prelude.{length, Option, None, is_some, IfSome, Bool, true, false, not};
 ghost use Rattle.std.specs.Prelude.{IsTrue, IfOk, OnOk, OnErr, is_ok, set, IsPermutation};
-ghost use Rattle.std.specs.List.{insert, remove, slice_get};
+ghost use Rattle.std.specs.List.{AllByRecursion, insert, remove, slice_get};
 ghost use Rattle.std.specs.Option.{option_map};
 ghost use Rattle.std.specs.Result.{result_err};
 ghost use Rattle.zv_ule.specs.Bytes.{IsBytes};
@@ -11,7 +11,7 @@ ghost use Rattle.zv_ule.specs.Views.{element_of};
 ghost use Rattle.zv_ule.specs.declared.error.UleError.{UleError};
 ghost use Rattle.zv_owned.specs.Size.{takes_pushes};
 ghost use Rattle.zv_map.specs.Forms.{list_in, spells_in};
-ghost use Rattle.zv_map.specs.Keys.{nth};
+ghost use Rattle.zv_map.specs.Keys.{IsElementOf, nth};
 ghost use Rattle.zv_map.specs.Refusals.{TooLargeUnless};
 ghost use Rattle.zv_map.specs.Reserved.{HasPlace, HasRoom, IsTaken, put_at, takes_put};
 ghost use Rattle.zv_map.specs.Views.{bytes_of, list_of};
@@ -266,6 +266,10 @@ pub trait ZvContainer<T: ZvKind>: ZeroVecLike<T> {
 
     /// The empty list is written as no bytes.
     ghost spelling_of_none: { spelling [] ≡ [] };
+
+    /// The elements of a list that bytes spell are the kind's.
+    ghost elements_valid: { (bytes : List ℕ) → IsBytes bytes → parse_fault bytes ≡ None →
+        AllByRecursion (IsElementOf T.fault) (parse_list bytes) };
 
     /// What a list that bytes spell is written as has no fault.
     ghost spelling_sound: { (bytes : List ℕ) → IsBytes bytes → parse_fault bytes ≡ None →

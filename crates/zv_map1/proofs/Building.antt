@@ -9,9 +9,9 @@ use Rattle.std.specs.declared.cmp.Ordering.{Ordering}
 use Rattle.zv_map.proofs.Places.{IsMap-insert_entry, look_up-insert_entry, look_up-without_key, maps_alike}
 use Rattle.zv_map1.specs.Building.{all_fit, insert_all, written}
 use Rattle.zv_map1.specs.Fits.{Rule, fits}
-use Rattle.zv_map1.specs.Laws.{AllIsMap, AppendInserts, FoundAlike, InsertIsFound, InsertLeavesOthers, IsElementOf, LastIsKept, RemoveIsGone}
+use Rattle.zv_map1.specs.Laws.{AllIsMap, AppendInserts, FoundAlike, InsertIsFound, InsertLeavesOthers, LastIsKept, RemoveIsGone}
 use Rattle.zv_map1.specs.Laws.{RemoveLeavesOthers}
-use Rattle.zv_map1.specs.Views.{Bytes, IsMap, Order, Pairs, insert_entry, look_up}
+use Rattle.zv_map1.specs.Views.{Bytes, IsElementOf, IsMap, Order, Pairs, insert_entry, look_up}
 use Rattle.zv_map1.proofs.Appended.{appended_is, gap_at_end}
 use Rattle.zv_map1.proofs.Zipped.{none_ascends}
 
@@ -86,4 +86,4 @@ remove_leaves_others order total m k j up other = look_up-without_key total m k 
 
 pub found_alike : FoundAlike
 found_alike order fault total exact m n up_m up_n keys_m keys_n f =
-    maps_alike total (IsElementOf fault) (λ a b ka kb e. exact a b ka.0 kb.0 ka.1 kb.1 e) m n up_m up_n keys_m keys_n f
+    maps_alike total (IsElementOf fault) (λ a b ka kb e. exact a b ka.bytes kb.bytes ka.valid kb.valid e) m n up_m up_n keys_m keys_n f

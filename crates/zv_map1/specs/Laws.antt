@@ -4,12 +4,11 @@ use Rattle.std.specs.Prelude.{◌≡◌, false, [], reverse, Option, Some, None,
 use Rattle.std.specs.Cmp.{IsTotalOrder}
 use Rattle.std.specs.List.{AllByRecursion}
 use Rattle.std.specs.Ordering.{is_eq}
-use Rattle.zv_ule.specs.Bytes.{IsBytes}
 use Rattle.zv_ule.specs.Kinds.{EqualIsSame}
 use Rattle.zv_ule.specs.declared.error.UleError.{UleError}
 use Rattle.zv_map1.specs.Appends.{appended, is_above}
 use Rattle.zv_map1.specs.Building.{insert_all}
-use Rattle.zv_map1.specs.Views.{Bytes, IsMap, Order, Pairs, insert_entry, keys_of, look_up}
+use Rattle.zv_map1.specs.Views.{Bytes, IsElementOf, IsMap, Order, Pairs, insert_entry, keys_of, look_up}
 use Rattle.zv_map1.specs.Views.{without_key}
 
 -- the value that was inserted is found
@@ -57,10 +56,6 @@ LastIsKept = (order : Order) → IsTotalOrder order → (ps : Pairs) (k : Bytes)
 abbrev pub AllIsMap : Type 0
 AllIsMap = (order : Order) → IsTotalOrder order → (ps : Pairs) →
     IsMap order (insert_all order [] ps)
-
--- a byte string that is an element, by the fault of its kind
-abbrev pub IsElementOf : (Bytes → Option UleError) → Bytes → Type 0
-IsElementOf fault k = IsBytes k × (fault k ≡ None)
 
 -- where elements of the keys' kind that compare Equal are the same bytes, maps in which the same is
 -- found are the same

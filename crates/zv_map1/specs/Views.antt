@@ -2,7 +2,7 @@
 use Rattle.std.specs.Prelude.{◌≡◌, Bool, IsTrue, List, length}
 use Rattle.std.specs.List.Sorted.{IsStrictlySortedBy}
 use Rattle.std.specs.declared.cmp.Ordering.{Ordering}
-pub use Rattle.zv_map.specs.Keys.{Bytes, nth}
+pub use Rattle.zv_map.specs.Keys.{Bytes, IsElementOf, nth}
 pub use Rattle.zv_map.specs.Maps.{IsMap, insert_entry, keys_of, look_up, set_value_at, values_of}
 pub use Rattle.zv_map.specs.Maps.{without_key}
 pub use Rattle.zv_map.specs.Vectors.{Vector}

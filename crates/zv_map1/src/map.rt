@@ -2,6 +2,7 @@
 ghost use Rattle.std.specs.Prelude.{◌≡◌, ℕ, ◌==◌, ◌-◌, ◌^◌, ◌<◌, ◌≤◌, ◌↔◌, IsTrue, [], length};
 ghost use Rattle.std.specs.Prelude.{map, true};
 ghost use Rattle.std.specs.Prelude.{is_some, option_map};
+ghost use Rattle.std.specs.List.{AllByRecursion};
 ghost use Rattle.std.specs.Result.{MatchResult};
 ghost use Rattle.zv_map.specs.Iters.{copied_left, copied_values_left, elements_left, left_of};
 ghost use Rattle.zv_map.specs.Maps.{IsAt, IsMap};
@@ -10,9 +11,9 @@ ghost use Rattle.zv_ule.specs.Search.{AtMostDigits, IsGap, compared};
 ghost use Rattle.zv_ule.specs.Views.{element_of};
 ghost use Rattle.zv_map1.specs.Borrowed.{pairs_of};
 ghost use Rattle.zv_map1.specs.Searches.{IsCopiedBy, IsFoundBy};
-ghost use Rattle.zv_map1.specs.Views.{keys_of, look_up, values_of};
+ghost use Rattle.zv_map1.specs.Views.{IsElementOf, keys_of, look_up, values_of};
 
-mod casts;
+pub mod casts;
 
 use crate::borrowed::ZeroMapBorrowed;
 use crate::search::{place_of, place_of_counted};
@@ -96,12 +97,14 @@ impl<K: ZvOrd, V: ZvKind, C: ZvContainer<K>, D: ZvContainer<V>> MapOver<K, V, C,
         self.len() == 0
     }
 
-    /// The keys of a map ascend. The call does nothing when it runs.
+    /// The keys of a map are elements of their kind, and ascend. The call is for proofs: it does
+    /// nothing to the map.
     #[inline]
     pub fn in_order(&self)
-        ensures { IsMap K.cmp self.now.pairs }
+        ensures ascending { IsMap K.cmp self.now.pairs }
+        ensures keys { AllByRecursion (IsElementOf K.fault) (keys_of self.now.pairs) }
     {
-        let _ = &self.keys;
+        let _bytes = self.keys.zvl_bytes();
     }
 
     /// The keys' vector.

@@ -12,7 +12,8 @@ use Rattle.zv_map.specs.Maps.{IsMap, keys_of, values_of, look_up, insert_entry, 
 use Rattle.zv_ule.specs.Kinds.{EqualIsSame}
 use Rattle.zv_ule.specs.declared.error.UleError.{UleError}
 use Rattle.zv_map2d.specs.Appending.{KeepsLast, Triple, last_given, put_all}
-use Rattle.zv_map2d.specs.FiniteMap.{PutIsFound, PutLeavesOthers, DelIsGone, DelLeavesOthers, FoundAlike, FoundInRow, IsElementOf}
+use Rattle.zv_map2d.specs.FiniteMap.{PutIsFound, PutLeavesOthers, DelIsGone, DelLeavesOthers, FoundAlike, FoundInRow}
+use Rattle.zv_map.specs.Keys.{IsElementOf}
 use Rattle.zv_map2d.specs.Keys.{Bytes}
 use Rattle.zv_map2d.specs.Rows.{Rows, IsRow, IsWell, seconds, row, find, put, with_row, del}
 use Rattle.zv_map2d.proofs.Well.{row_holds, row_ordered}

@@ -8,8 +8,8 @@ use Rattle.std.specs.declared.cmp.Ordering.TheVariants.{Equal}
 use Rattle.std.specs.List.{AllByRecursion}
 use Rattle.std.specs.Option.{option_and_then}
 use Rattle.zv_ule.specs.declared.error.UleError.{UleError}
-use Rattle.zv_ule.specs.Bytes.{IsBytes}
 use Rattle.zv_ule.specs.Kinds.{EqualIsSame}
+use Rattle.zv_map.specs.Keys.{IsElementOf}
 use Rattle.zv_map.specs.Maps.{look_up}
 use Rattle.zv_map2d.specs.Image.{by_bytes}
 use Rattle.zv_map2d.specs.Keys.{Bytes}
@@ -66,11 +66,6 @@ DelIsWell = (order0 order1 : Bytes → Bytes → Ordering) → IsTotalOrder orde
 -- texts and byte strings that compare Equal are the same
 abbrev pub TextsAreExact : Type 0
 TextsAreExact = (a b : Bytes) → by_bytes a b ≡ Equal → a ≡ b
-
--- a byte string that is an element, by the fault of its kind
-pub record IsElementOf (fault : Bytes → Option UleError) (k : Bytes) : Type 0 where
-  pub bytes : IsBytes k
-  pub valid : fault k ≡ None
 
 -- each key is an element
 pub record AreElements (fault0 fault1 : Bytes → Option UleError) (m : Rows) : Type 0 where

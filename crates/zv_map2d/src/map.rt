@@ -4,6 +4,7 @@ ghost use Rattle.std.specs.Prelude.{IfOk, IfErr, OnErr, OnOk, is_none, is_ok, is
 ghost use Rattle.std.specs.Prelude.{nat_lt, option_map};
 ghost use Rattle.std.specs.List.{flat_map};
 ghost use Rattle.zv_ule.specs.Bytes.{le};
+ghost use Rattle.zv_map2d.specs.FiniteMap.{AreElements};
 ghost use Rattle.zv_map2d.specs.Fits.{fits, rule_of};
 ghost use Rattle.zv_map2d.specs.Room.{HasRoomFor, IsOwned, IsSameMap, SpendsFor};
 ghost use Rattle.zv_map2d.specs.Refusals.{RefusedUnless, is_full};
@@ -139,12 +140,14 @@ impl<
         self.len() == 0
     }
 
-    /// The keys of a map ascend, and no row is empty. The call does nothing when it runs.
+    /// The keys of a map are elements of their kinds, and ascend, and no row is empty. The call is
+    /// for proofs: it does nothing to the map.
     #[inline]
     pub fn in_order(&self)
-        ensures { IsWell K0.cmp K1.cmp self.now.rows }
+        ensures ascending { IsWell K0.cmp K1.cmp self.now.rows }
+        ensures keys { AreElements K0.fault K1.fault self.now.rows }
     {
-        let _ = &self.columns;
+        let _parts = self.columns.parts();
     }
 }
 

@@ -1,21 +1,73 @@
 // Maps whose keys or values are taken as those of another kind, in the same bytes.
-ghost use Rattle.std.specs.Prelude.{◌≡◌, IfOk, IsTrue, None};
+ghost use Rattle.std.specs.Prelude.{◌≡◌, Bool, IfOk, IsTrue, None, true};
 ghost use Rattle.std.specs.Result.{result_err};
 ghost use Rattle.zv_map.specs.Maps.{IsMap};
-ghost use Rattle.zv_ule.specs.Chunks.{chunks_fault};
 
 use crate::map::MapOver;
 use std::marker::PhantomData;
 use zv_fixed::ZeroVec;
 use zv_map::ZvContainer;
-use zv_ule::{AsULE, UleError, ZvKind, ZvOrd};
+use zv_ule::{AsULE, ULE, UleError, ZvKind, ZvOrd};
 
-impl<'a, K: AsULE + ZvOrd, V: ZvKind, D: ZvContainer<V> + Drop> MapOver<K, V, ZeroVec<'a, K>, D> {
+/// A container that can be taken as one of another kind, in the same bytes: kinds whose values are
+/// stored alike, each in a [`ZeroVec`].
+pub trait CastInto<T: ZvKind, P: ZvKind, E: ZvContainer<P>>: ZvContainer<T> {
+    /// The same list as one of the other kind. The bytes stay where they are.
+    fn zvl_cast(self) -> E
+        ensures list { E.list result ≡ Self.list self.entry }
+        ensures bytes { E.bytes result ≡ Self.bytes self.entry }
+        ensures spare { E.spare result ≡ Self.spare self.entry }
+        ensures owned { E.owned result ≡ Self.owned self.entry }
+        ensures ready { E.ready result ≡ Self.ready self.entry }
+        ensures usable { IsTrue T.usable → IsTrue P.usable };
+}
+
+/// A container whose bytes can be taken as those of another kind, if they are all of it: kinds of
+/// one width, each in a [`ZeroVec`].
+pub trait ConvertInto<T: ZvKind, P: ZvKind, E: ZvContainer<P>>: ZvContainer<T> {
+    /// Whether elements of the two kinds are equally wide.
+    ghost same_width: { Bool };
+
+    /// The list of the other kind that the bytes are, which stay where they are.
+    ///
+    /// # Errors
+    /// The error of the bytes as a list of the kind. The container is dropped then.
+    fn zvl_try_convert(self) -> Result<E, UleError>
+        requires { same_width ≡ true }
+        requires usable { IsTrue T.usable }
+        ensures error { result_err result ≡ E.parse_fault (Self.bytes self.entry) }
+        ensures list { IfOk result (λ c. E.list c ≡ Self.list self.entry) }
+        ensures bytes { IfOk result (λ c. E.bytes c ≡ Self.bytes self.entry) }
+        ensures spare { IfOk result (λ c. E.spare c ≡ Self.spare self.entry) }
+        ensures owned { IfOk result (λ c. E.owned c ≡ Self.owned self.entry) }
+        ensures ready { IfOk result (λ c. E.ready c ≡ Self.ready self.entry) }
+        ensures usable { IsTrue P.usable };
+}
+
+impl<'a, T: AsULE, P: AsULE<ULE = T::ULE>> CastInto<T, P, ZeroVec<'a, P>> for ZeroVec<'a, T> {
+    #[inline]
+    fn zvl_cast(self) -> ZeroVec<'a, P> {
+        self.cast::<P>()
+    }
+}
+
+impl<'a, T: AsULE, P: AsULE> ConvertInto<T, P, ZeroVec<'a, P>> for ZeroVec<'a, T> {
+    ghost use Rattle.std.specs.Prelude.{◌==◌};
+
+    ghost same_width = { P.ULE.width == T.ULE.width };
+
+    #[inline]
+    fn zvl_try_convert(self) -> Result<ZeroVec<'a, P>, UleError> {
+        self.try_into_converted::<P>()
+    }
+}
+
+impl<K: ZvOrd, V: ZvKind, C: ZvContainer<K> + Drop, D: ZvContainer<V> + Drop> MapOver<K, V, C, D> {
     /// The same pairs with keys of a kind whose values are stored alike, and by whose order the
     /// keys ascend too. The bytes stay where they are.
-    pub fn cast_zv_k_unchecked<P: AsULE<ULE = K::ULE> + ZvOrd>(
-        self,
-    ) -> MapOver<P, V, ZeroVec<'a, P>, D>
+    pub fn cast_zv_k_unchecked<P: ZvOrd, E: ZvContainer<P> + Drop>(self) -> MapOver<P, V, E, D>
+    where
+        C: CastInto<K, P, E>,
         requires { IsMap P.cmp self.pairs }
         ensures pairs { result.pairs ≡ self.entry.pairs }
         ensures keys { result.keys ≡ self.entry.keys }
@@ -27,7 +79,7 @@ impl<'a, K: AsULE + ZvOrd, V: ZvKind, D: ZvContainer<V> + Drop> MapOver<K, V, Ze
             kinds: _,
         } = self;
         MapOver {
-            keys: keys.cast::<P>(),
+            keys: keys.zvl_cast(),
             values,
             kinds: PhantomData,
         }
@@ -38,14 +90,14 @@ impl<'a, K: AsULE + ZvOrd, V: ZvKind, D: ZvContainer<V> + Drop> MapOver<K, V, Ze
     ///
     /// # Errors
     /// The error of the keys' bytes as a list of the kind. The map is dropped then.
-    pub fn try_convert_zv_k_unchecked<P: AsULE + ZvOrd>(
+    pub fn try_convert_zv_k_unchecked<P: ZvOrd, E: ZvContainer<P> + Drop>(
         self,
-    ) -> Result<MapOver<P, V, ZeroVec<'a, P>, D>, UleError>
-        requires widths { P.ULE.width ≡ K.ULE.width }
-        requires ascending { chunks_fault P.ULE.TY P.ULE.width P.ULE.chunk_fault self.keys.bytes
-            ≡ None → IsMap P.cmp self.pairs }
-        ensures error { result_err result
-            ≡ chunks_fault P.ULE.TY P.ULE.width P.ULE.chunk_fault self.entry.keys.bytes }
+    ) -> Result<MapOver<P, V, E, D>, UleError>
+    where
+        C: ConvertInto<K, P, E>,
+        requires widths { C.ConvertInto.same_width ≡ true }
+        requires ascending { E.parse_fault self.keys.bytes ≡ None → IsMap P.cmp self.pairs }
+        ensures error { result_err result ≡ E.parse_fault self.entry.keys.bytes }
         ensures pairs { IfOk result (λ m. m.pairs ≡ self.entry.pairs) }
         ensures keys { IfOk result (λ m. m.keys ≡ self.entry.keys) }
         ensures values { IfOk result (λ m. m.values ≡ self.entry.values) }
@@ -56,17 +108,17 @@ impl<'a, K: AsULE + ZvOrd, V: ZvKind, D: ZvContainer<V> + Drop> MapOver<K, V, Ze
             kinds: _,
         } = self;
         Ok(MapOver {
-            keys: keys.try_into_converted::<P>()?,
+            keys: keys.zvl_try_convert()?,
             values,
             kinds: PhantomData,
         })
     }
-}
 
-impl<'a, K: ZvOrd, V: AsULE, C: ZvContainer<K> + Drop> MapOver<K, V, C, ZeroVec<'a, V>> {
     /// The same pairs with values of a kind whose values are stored alike. The bytes stay where
     /// they are.
-    pub fn cast_zv_v_unchecked<P: AsULE<ULE = V::ULE>>(self) -> MapOver<K, P, C, ZeroVec<'a, P>>
+    pub fn cast_zv_v_unchecked<P: ZvKind, E: ZvContainer<P> + Drop>(self) -> MapOver<K, P, C, E>
+    where
+        D: CastInto<V, P, E>,
         ensures pairs { result.pairs ≡ self.entry.pairs }
         ensures keys { result.keys ≡ self.entry.keys }
         ensures values { result.values ≡ self.entry.values }
@@ -78,7 +130,7 @@ impl<'a, K: ZvOrd, V: AsULE, C: ZvContainer<K> + Drop> MapOver<K, V, C, ZeroVec<
         } = self;
         MapOver {
             keys,
-            values: values.cast::<P>(),
+            values: values.zvl_cast(),
             kinds: PhantomData,
         }
     }
@@ -87,12 +139,13 @@ impl<'a, K: ZvOrd, V: AsULE, C: ZvContainer<K> + Drop> MapOver<K, V, C, ZeroVec<
     ///
     /// # Errors
     /// The error of the values' bytes as a list of the kind. The map is dropped then.
-    pub fn try_convert_zv_v_unchecked<P: AsULE>(
+    pub fn try_convert_zv_v_unchecked<P: ZvKind, E: ZvContainer<P> + Drop>(
         self,
-    ) -> Result<MapOver<K, P, C, ZeroVec<'a, P>>, UleError>
-        requires { P.ULE.width ≡ V.ULE.width }
-        ensures error { result_err result
-            ≡ chunks_fault P.ULE.TY P.ULE.width P.ULE.chunk_fault self.entry.values.bytes }
+    ) -> Result<MapOver<K, P, C, E>, UleError>
+    where
+        D: ConvertInto<V, P, E>,
+        requires { D.ConvertInto.same_width ≡ true }
+        ensures error { result_err result ≡ E.parse_fault self.entry.values.bytes }
         ensures pairs { IfOk result (λ m. m.pairs ≡ self.entry.pairs) }
         ensures keys { IfOk result (λ m. m.keys ≡ self.entry.keys) }
         ensures values { IfOk result (λ m. m.values ≡ self.entry.values) }
@@ -104,7 +157,7 @@ impl<'a, K: ZvOrd, V: AsULE, C: ZvContainer<K> + Drop> MapOver<K, V, C, ZeroVec<
         } = self;
         Ok(MapOver {
             keys,
-            values: values.try_into_converted::<P>()?,
+            values: values.zvl_try_convert()?,
             kinds: PhantomData,
         })
     }
