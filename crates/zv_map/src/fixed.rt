@@ -198,7 +198,7 @@ impl<'a, T: AsULE> ZvContainer<T> for ZeroVec<'a, T> {
 
     ghost spelling_of_none = { refl };
 
-    ghost elements_valid = { chunks_valid T.ULE.chunk_fault T.ULE.TY T.ULE.width };
+    ghost elements_valid = { chunks_valid T.kind };
 
     ghost spelling_sound = { λ bytes _. chunks_sound T.ULE.TY T.ULE.width T.ULE.chunk_fault bytes };
 
