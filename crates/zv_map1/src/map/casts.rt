@@ -14,11 +14,11 @@ use zv_ule::{AsULE, ULE, UleError, ZvKind, ZvOrd};
 pub trait CastInto<T: ZvKind, P: ZvKind, E: ZvContainer<P>>: ZvContainer<T> {
     /// The same list as one of the other kind. The bytes stay where they are.
     fn zvl_cast(self) -> E
-        ensures list { E.list result ≡ Self.list self.entry }
-        ensures bytes { E.bytes result ≡ Self.bytes self.entry }
-        ensures spare { E.spare result ≡ Self.spare self.entry }
-        ensures owned { E.owned result ≡ Self.owned self.entry }
-        ensures ready { E.ready result ≡ Self.ready self.entry }
+        ensures list { E.list result ≡ Self.list self }
+        ensures bytes { E.bytes result ≡ Self.bytes self }
+        ensures spare { E.spare result ≡ Self.spare self }
+        ensures owned { E.owned result ≡ Self.owned self }
+        ensures ready { E.ready result ≡ Self.ready self }
         ensures usable { IsTrue T.usable → IsTrue P.usable };
 }
 
@@ -33,14 +33,14 @@ pub trait ConvertInto<T: ZvKind, P: ZvKind, E: ZvContainer<P>>: ZvContainer<T> {
     /// # Errors
     /// The error of the bytes as a list of the kind. The container is dropped then.
     fn zvl_try_convert(self) -> Result<E, UleError>
-        requires { same_width ≡ true }
+        requires widths { same_width ≡ true }
         requires usable { IsTrue T.usable }
-        ensures error { result_err result ≡ E.parse_fault (Self.bytes self.entry) }
-        ensures list { IfOk result (λ c. E.list c ≡ Self.list self.entry) }
-        ensures bytes { IfOk result (λ c. E.bytes c ≡ Self.bytes self.entry) }
-        ensures spare { IfOk result (λ c. E.spare c ≡ Self.spare self.entry) }
-        ensures owned { IfOk result (λ c. E.owned c ≡ Self.owned self.entry) }
-        ensures ready { IfOk result (λ c. E.ready c ≡ Self.ready self.entry) }
+        ensures error { result_err result ≡ E.parse_fault (Self.bytes self) }
+        ensures list { IfOk result (λ c. E.list c ≡ Self.list self) }
+        ensures bytes { IfOk result (λ c. E.bytes c ≡ Self.bytes self) }
+        ensures spare { IfOk result (λ c. E.spare c ≡ Self.spare self) }
+        ensures owned { IfOk result (λ c. E.owned c ≡ Self.owned self) }
+        ensures ready { IfOk result (λ c. E.ready c ≡ Self.ready self) }
         ensures usable { IsTrue P.usable };
 }
 
@@ -69,9 +69,9 @@ impl<K: ZvOrd, V: ZvKind, C: ZvContainer<K> + Drop, D: ZvContainer<V> + Drop> Ma
     where
         C: CastInto<K, P, E>,
         requires { IsMap P.cmp self.pairs }
-        ensures pairs { result.pairs ≡ self.entry.pairs }
-        ensures keys { result.keys ≡ self.entry.keys }
-        ensures values { result.values ≡ self.entry.values }
+        ensures pairs { result.pairs ≡ self.pairs }
+        ensures keys { result.keys ≡ self.keys }
+        ensures values { result.values ≡ self.values }
     {
         let MapOver {
             keys,
@@ -97,10 +97,10 @@ impl<K: ZvOrd, V: ZvKind, C: ZvContainer<K> + Drop, D: ZvContainer<V> + Drop> Ma
         C: ConvertInto<K, P, E>,
         requires widths { C.ConvertInto.same_width ≡ true }
         requires ascending { E.parse_fault self.keys.bytes ≡ None → IsMap P.cmp self.pairs }
-        ensures error { result_err result ≡ E.parse_fault self.entry.keys.bytes }
-        ensures pairs { IfOk result (λ m. m.pairs ≡ self.entry.pairs) }
-        ensures keys { IfOk result (λ m. m.keys ≡ self.entry.keys) }
-        ensures values { IfOk result (λ m. m.values ≡ self.entry.values) }
+        ensures error { result_err result ≡ E.parse_fault self.keys.bytes }
+        ensures pairs { IfOk result (λ m. m.pairs ≡ self.pairs) }
+        ensures keys { IfOk result (λ m. m.keys ≡ self.keys) }
+        ensures values { IfOk result (λ m. m.values ≡ self.values) }
     {
         let MapOver {
             keys,
@@ -119,9 +119,9 @@ impl<K: ZvOrd, V: ZvKind, C: ZvContainer<K> + Drop, D: ZvContainer<V> + Drop> Ma
     pub fn cast_zv_v_unchecked<P: ZvKind, E: ZvContainer<P> + Drop>(self) -> MapOver<K, P, C, E>
     where
         D: CastInto<V, P, E>,
-        ensures pairs { result.pairs ≡ self.entry.pairs }
-        ensures keys { result.keys ≡ self.entry.keys }
-        ensures values { result.values ≡ self.entry.values }
+        ensures pairs { result.pairs ≡ self.pairs }
+        ensures keys { result.keys ≡ self.keys }
+        ensures values { result.values ≡ self.values }
     {
         let MapOver {
             keys,
@@ -145,10 +145,10 @@ impl<K: ZvOrd, V: ZvKind, C: ZvContainer<K> + Drop, D: ZvContainer<V> + Drop> Ma
     where
         D: ConvertInto<V, P, E>,
         requires { D.ConvertInto.same_width ≡ true }
-        ensures error { result_err result ≡ E.parse_fault self.entry.values.bytes }
-        ensures pairs { IfOk result (λ m. m.pairs ≡ self.entry.pairs) }
-        ensures keys { IfOk result (λ m. m.keys ≡ self.entry.keys) }
-        ensures values { IfOk result (λ m. m.values ≡ self.entry.values) }
+        ensures error { result_err result ≡ E.parse_fault self.values.bytes }
+        ensures pairs { IfOk result (λ m. m.pairs ≡ self.pairs) }
+        ensures keys { IfOk result (λ m. m.keys ≡ self.keys) }
+        ensures values { IfOk result (λ m. m.values ≡ self.values) }
     {
         let MapOver {
             keys,
