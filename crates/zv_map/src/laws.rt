@@ -36,3 +36,10 @@ pub fn spellings_are_read<T: ZvKind, C: ZvContainer<T>>()
         C.parse_list (C.spelling (C.parse_list bytes)) ≡ C.parse_list bytes }
     ensures form { (x : C) → C.has_form (C.form x) ≡ true }
 {}
+
+/// The elements of a list that the bytes spell are the kind's. It does nothing.
+#[inline]
+pub fn elements_are_valid<T: ZvKind, C: ZvContainer<T>>(bytes: &[u8])
+    requires { C.parse_fault bytes.now ≡ None }
+    ensures { AllByRecursion (IsElementOf T.fault) (C.parse_list bytes.now) }
+{}

@@ -20,6 +20,7 @@ use crate::search::{place_of, place_of_counted};
 use std::cmp::Ordering;
 use std::marker::{Model, PhantomData};
 use std::sync::ledger::Ledger;
+use zv_map::laws::elements_are_valid;
 use zv_map::{
     KvSlice, ZeroMapCopied, ZeroMapCopiedValues, ZeroMapIter, ZeroMapKV, ZeroMapKeys,
     ZeroMapValues, ZeroVecSearchBy, ZvContainer,
@@ -104,7 +105,7 @@ impl<K: ZvOrd, V: ZvKind, C: ZvContainer<K>, D: ZvContainer<V>> MapOver<K, V, C,
         ensures ascending { IsMap K.cmp self.now.pairs }
         ensures keys { AllByRecursion (IsElementOf K.fault) (keys_of self.now.pairs) }
     {
-        let _bytes = self.keys.zvl_bytes();
+        elements_are_valid::<K, C>(self.keys.zvl_bytes());
     }
 
     /// The keys' vector.

@@ -1,6 +1,5 @@
 use Rattle.std.proofs.Common.{subst, sym, ◌∙◌}
 use Rattle.std.specs.List.{AllByRecursion}
-use Rattle.zv_ule.specs.Bytes.{IsBytes}
 use Rattle.zv_map1.specs.Views.{IsElementOf, IsMap, Map1}
 use Rattle.zv_map1.proofs.Zipped.{ascend, keys_are}
 use Rattle.zv_map1.proofs.map.MapOver.in_order.Goals as goal
@@ -10,6 +9,5 @@ returns-clause-ascending g c = subst (λ (m : Map1). IsMap g.K.ZvOrd.cmp m.pairs
 
 pub returns-clause-keys : goal.returns-clause-keys
 returns-clause-keys g c =
-    let bytes : IsBytes c.zvl_bytes.result.now = search rules in
-    let all = g.met.C.ZvContainer.elements_valid c.zvl_bytes.result.now bytes c.zvl_bytes.ensures.sound in
-    subst (AllByRecursion (IsElementOf g.K.ZvKind.fault)) (c.zvl_bytes.ensures.list ∙ sym (keys_are c.self.view_is c.self.invariant)) all
+    subst (AllByRecursion (IsElementOf g.K.ZvKind.fault)) (c.zvl_bytes.ensures.list ∙ sym (keys_are c.self.view_is c.self.invariant))
+    c.elements_are_valid.ensures
