@@ -4,6 +4,8 @@
 #[cfg(test)]
 mod appends;
 #[cfg(test)]
+mod casts;
+#[cfg(test)]
 mod containers;
 #[cfg(test)]
 mod counted;
