@@ -7,10 +7,10 @@ ghost use Rattle.zv_map2d.specs.Fits.{fits_texts};
 ghost use Rattle.zv_map2d.specs.Image.{by_bytes};
 ghost use Rattle.zv_map.specs.Iters.{left_of};
 ghost use Rattle.zv_map2d.specs.Places.{IsPlace};
-ghost use Rattle.zv_map2d.specs.Rows.{put};
+ghost use Rattle.zv_map2d.specs.Rows.{find, put};
 ghost use Rattle.zv_ule.specs.Views.{element_of};
 ghost use Rattle.zv_tool.specs.Answers.{reply, next};
-ghost use Rattle.zv_tool.specs.Output.{line, pair_text, text};
+ghost use Rattle.zv_tool.specs.Output.{added, line, old, pair_text, text};
 ghost use Rattle.zv_tool.specs.Room.{HasRoomOf, SpendsOf, sizes_of};
 ghost use Rattle.zv_tool.specs.Sending.{Sends};
 
@@ -114,6 +114,31 @@ fn put_fitting(map: &mut ImageMap<'_>, place: Place, key0: &str, key1: &str, val
     map.put_at(place, &key0, &key1, &value);
 }
 
+// Replies to a put of a value that fits, and then does it.
+fn put_at<K: Sink>(
+    out: &mut Output<'_, K>,
+    map: &mut ImageMap<'_>,
+    place: Place,
+    key0: &str,
+    key1: &str,
+    value: &ValueBytes,
+) -> Result<(), Failed>
+    requires place { IsPlace by_bytes by_bytes map.old.rows key0.now key1.now place }
+    requires fits { fits_texts map.old.rows key0.now key1.now value.now ≡ true }
+    requires room { HasRoomOf (sizes_of (Command.Put key0.now key1.now value.now)) map.old }
+    ensures text { Sends K.taken K.faults out.old out.new result (text (option_map_or old
+        (find by_bytes by_bytes map.old.rows key0.now key1.now) added)) }
+    ensures left { OnOk result (map.new.rows
+        ≡ put by_bytes by_bytes map.old.rows key0.now key1.now value.now) }
+    ensures same { OnErr result (map.new.rows ≡ map.old.rows) }
+    ensures spends { SpendsOf (sizes_of (Command.Put key0.now key1.now value.now))
+        map.old map.new }
+{
+    write_found(out, map.value_at(place, &key0, &key1), b"old x", b"new\n")?;
+    put_fitting(map, place, key0, key1, value);
+    Ok(())
+}
+
 // Replies to a put, and then does it, where the value fits.
 fn put<K: Sink>(
     out: &mut Output<'_, K>,
@@ -136,9 +161,7 @@ fn put<K: Sink>(
     if !fits(map, place, key0, key1, value) {
         return out.write(b"toolarge\n");
     }
-    write_found(out, map.value_at(place, &key0, &key1), b"old x", b"new\n")?;
-    put_fitting(map, place, key0, key1, value);
-    Ok(())
+    put_at(out, map, place, key0, key1, value)
 }
 
 // Replies to a removal, and then does it.

@@ -1,10 +1,17 @@
-use Rattle.std.proofs.Common.{◌≡◌, ◌∙◌, rules}
+use Rattle.std.proofs.Common.{◌≡◌, ◌∙◌, Bool, rules, true}
+use Rattle.zv_map.specs.Reserved.{IsTaken}
+use Rattle.zv_map2d.specs.Fits.{fits_texts}
 use Rattle.zv_map2d.proofs.Kept.{fits_alike}
 use Rattle.zv_tool.proofs.replies.put_fitting.Goals as goal
 
-pub put_at-requires-clause-fits : goal.put_at-requires-clause-fits
-put_at-requires-clause-fits c =
+IsTaken-from : {takes : Bool} → takes ≡ true → IsTaken takes
+IsTaken-from is = record { taken = is }
+
+pub put_at-requires : goal.put_at-requires
+put_at-requires c =
+    let m = c.args.map.now.rows in
     let v = c.of_bytes-value.result.bytes.now in
     let same : v ≡ c.args.value.now = search rules in
-    let alike = fits_alike c.args.map.now.rows c.args.key0.now c.args.key1.now v c.in_order.ensures in
-    record { taken = alike ∙ rw same c.requires.fits }
+    let fits : fits_texts m c.args.key0.now c.args.key1.now v ≡ true = rw same c.requires.fits in
+    let taken = IsTaken-from (fits_alike m c.args.key0.now c.args.key1.now v c.in_order.ensures ∙ fits) in
+    search rules
