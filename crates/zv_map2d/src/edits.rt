@@ -1,8 +1,9 @@
 // Changes of a map's four vectors.
 ghost use Rattle.std.specs.Prelude.{◌≡◌, ◌+◌, ◌*◌, ◌^◌, ◌<◌, ◌≤◌, ◌&&◌, ℕ, false, true, [], ◌∷◌};
 ghost use Rattle.std.specs.Prelude.{IfOk, IfSome, IfErr, IsTrue, OnErr, OnOk, None, Some, is_ok};
-ghost use Rattle.std.specs.Prelude.{is_some, length, nat_lt};
+ghost use Rattle.std.specs.Prelude.{is_some, length, nat_lt, option_map};
 ghost use Rattle.zv_map.specs.Maps.{set_value_at};
+ghost use Rattle.zv_ule.specs.Views.{element_of};
 ghost use Rattle.zv_map.specs.Reserved.{IsTaken};
 ghost use Rattle.std.specs.List.{insert, remove};
 ghost use Rattle.zv_map2d.specs.Outcomes.{Dels, Inserts, IsLeftBy, Puts};
@@ -18,8 +19,8 @@ use crate::error::Map2dError;
 use crate::joiner::shift;
 use crate::place::Place;
 use std::alloc::Global;
-use zv_map::{MutableZeroVecLike, TooLarge};
-use zv_ule::{NoMemory, ZvArg, ZvKind, ZvOrd, ZvOrdArg};
+use zv_map::MutableZeroVecLike;
+use zv_ule::{NoMemory, VarRef, ZvArg, ZvKind, ZvOrd, ZvOrdArg};
 
 /// The most pairs that a joiner can count.
 const MAX_PAIRS: usize = 4_294_967_295;
@@ -131,6 +132,40 @@ impl<
         }
     }
 
+    /// The place again: what is asked of it is told of the result, which a match takes apart.
+    #[inline]
+    fn same_place<Q0: ZvOrdArg<K0>, Q1: ZvOrdArg<K1>>(
+        &self,
+        place: Place,
+        _key0: &Q0,
+        _key1: &Q1,
+    ) -> Place
+        requires { IsPlace K0.cmp K1.cmp self.now.rows (Q0.bytes _key0.now) (Q1.bytes _key1.now)
+            place }
+        ensures { IsPlace K0.cmp K1.cmp self.now.rows (Q0.bytes _key0.now) (Q1.bytes _key1.now)
+            result }
+    {
+        place
+    }
+
+    /// The value at the place of a pair of keys, if there is one.
+    pub(crate) fn value_there<Q0: ZvOrdArg<K0>, Q1: ZvOrdArg<K1>>(
+        &self,
+        place: Place,
+        key0: &Q0,
+        key1: &Q1,
+    ) -> Option<VarRef<'_, V>>
+        requires { IsPlace K0.cmp K1.cmp self.now.rows (Q0.bytes key0.now) (Q1.bytes key1.now)
+            place }
+        ensures { option_map element_of result
+            ≡ find K0.cmp K1.cmp self.now.rows (Q0.bytes key0.now) (Q1.bytes key1.now) }
+    {
+        let Place::Pair { row, pair } = self.same_place(place, key0, key1) else {
+            return None;
+        };
+        self.values.zvl_get(self.pair_start(row, pair))
+    }
+
     /// Whether a new pair's key and value are taken by their lists.
     fn takes_pair<Q1: ZvArg<K1>, R: ZvArg<V>>(&self, key1: &Q1, value: &R) -> bool
         requires key1 { length (Q1.bytes key1.now) < 2 ^ 64 }
@@ -169,25 +204,6 @@ impl<
                 self.keys0.zvl_takes_insert(key0.arg_len()) && self.takes_pair(key1, value)
             }
         }
-    }
-
-    /// Whether the value fits.
-    pub(crate) fn would_take<Q0: ZvOrdArg<K0>, Q1: ZvOrdArg<K1>, R: ZvArg<V>>(
-        &self,
-        key0: &Q0,
-        key1: &Q1,
-        value: &R,
-    ) -> bool
-        requires well { IsWell K0.cmp K1.cmp self.now.rows }
-        requires key0 { length (Q0.bytes key0.now) < 2 ^ 64 }
-        requires key1 { length (Q1.bytes key1.now) < 2 ^ 64 }
-        requires value { length (R.bytes value.now) < 2 ^ 64 }
-        ensures { result ≡ fits
-            (rule_of C0.takes_insert C1.takes_insert D.takes_insert D.takes_replace)
-            K0.cmp K1.cmp self.now.rows
-            (Q0.bytes key0.now) (Q1.bytes key1.now) (R.bytes value.now) }
-    {
-        self.takes(self.place(key0, key1), key0, key1, value)
     }
 
     // ---- changes in the vectors' own memory
@@ -272,7 +288,7 @@ impl<
         self.joiner.insert_owned(row, at as u32 + 1);
     }
 
-    /// Puts a value, which fits, at the place of its keys.
+    /// Puts a value, which fits there, at the place of its keys.
     fn put_at<Q0: ZvOrdArg<K0>, Q1: ZvOrdArg<K1>, R: ZvArg<V>>(
         &mut self,
         place: Place,
@@ -300,6 +316,54 @@ impl<
             Place::InRow { row, pair } => self.add_pair(row, pair, key1, value),
             Place::NewRow { row } => self.add_row(row, key0, key1, value),
         }
+    }
+
+    /// A value that fits in the map fits at the place of its keys. It does nothing.
+    #[inline]
+    fn fits_there<Q0: ZvOrdArg<K0>, Q1: ZvOrdArg<K1>, R: ZvArg<V>>(
+        &self,
+        place: Place,
+        _key0: &Q0,
+        _key1: &Q1,
+        _value: &R,
+    )
+        requires place { IsPlace K0.cmp K1.cmp self.now.rows (Q0.bytes _key0.now)
+            (Q1.bytes _key1.now) place }
+        requires fits { IsTaken (fits
+            (rule_of C0.takes_insert C1.takes_insert D.takes_insert D.takes_replace)
+            K0.cmp K1.cmp self.now.rows
+            (Q0.bytes _key0.now) (Q1.bytes _key1.now) (R.bytes _value.now)) }
+        ensures { IsTaken (fits_at
+            (rule_of C0.takes_insert C1.takes_insert D.takes_insert D.takes_replace) self.now.rows
+            (Q0.bytes _key0.now) (Q1.bytes _key1.now) (R.bytes _value.now) place) }
+    {}
+
+    /// Puts a value, which fits in the map, at the place of its keys.
+    pub(crate) fn put_fitting<Q0: ZvOrdArg<K0>, Q1: ZvOrdArg<K1>, R: ZvArg<V>>(
+        &mut self,
+        place: Place,
+        key0: &Q0,
+        key1: &Q1,
+        value: &R,
+    )
+        requires place { IsPlace K0.cmp K1.cmp self.old.rows (Q0.bytes key0.now)
+            (Q1.bytes key1.now) place }
+        requires key0 { length (Q0.bytes key0.now) < 2 ^ 64 }
+        requires key1 { length (Q1.bytes key1.now) < 2 ^ 64 }
+        requires value { length (R.bytes value.now) < 2 ^ 64 }
+        requires fits { IsTaken (fits
+            (rule_of C0.takes_insert C1.takes_insert D.takes_insert D.takes_replace)
+            K0.cmp K1.cmp self.old.rows
+            (Q0.bytes key0.now) (Q1.bytes key1.now) (R.bytes value.now)) }
+        requires room { HasRoomFor C0.field C1.field D.field (length (Q0.bytes key0.now))
+            (length (Q1.bytes key1.now)) (length (R.bytes value.now)) 1 self.old }
+        ensures rows { self.new.rows ≡ put K0.cmp K1.cmp self.old.rows
+            (Q0.bytes key0.now) (Q1.bytes key1.now) (R.bytes value.now) }
+        ensures spends { SpendsFor C0.field C1.field D.field (length (Q0.bytes key0.now))
+            (length (Q1.bytes key1.now)) (length (R.bytes value.now)) 1 self.old self.new }
+    {
+        self.fits_there(place, key0, key1, value);
+        self.put_at(place, key0, key1, value);
     }
 
     /// Takes a pair out of a row that has others.
@@ -479,49 +543,17 @@ impl<
         Ok(Some(old))
     }
 
-    /// Puts a value that the room covers for a pair of keys, and says whether the pair was there.
-    pub(crate) fn put_reserved<Q0: ZvOrdArg<K0>, Q1: ZvOrdArg<K1>, R: ZvArg<V>>(
+    /// Takes the pair at the place of its keys out, with its row where that was its only pair, and
+    /// says whether it was there.
+    pub(crate) fn discard_at<Q0: ZvOrdArg<K0>, Q1: ZvOrdArg<K1>>(
         &mut self,
-        key0: &Q0,
-        key1: &Q1,
-        value: &R,
-    ) -> Result<bool, TooLarge>
-        requires well { IsWell K0.cmp K1.cmp self.old.rows }
-        requires key0 { length (Q0.bytes key0.now) < 2 ^ 64 }
-        requires key1 { length (Q1.bytes key1.now) < 2 ^ 64 }
-        requires value { length (R.bytes value.now) < 2 ^ 64 }
-        requires room { HasRoomFor C0.field C1.field D.field (length (Q0.bytes key0.now))
-            (length (Q1.bytes key1.now)) (length (R.bytes value.now)) 1 self.old }
-        ensures rows { OnOk result (self.new.rows ≡ put K0.cmp K1.cmp self.old.rows
-            (Q0.bytes key0.now) (Q1.bytes key1.now) (R.bytes value.now)) }
-        ensures found { IfOk result (λ found. found ≡ is_some (find K0.cmp K1.cmp self.old.rows
-            (Q0.bytes key0.now) (Q1.bytes key1.now))) }
-        ensures err { OnErr result (self.new ≡ self.old) }
-        ensures refused { is_ok result ≡ fits
-            (rule_of C0.takes_insert C1.takes_insert D.takes_insert D.takes_replace)
-            K0.cmp K1.cmp self.old.rows
-            (Q0.bytes key0.now) (Q1.bytes key1.now) (R.bytes value.now) }
-        ensures spends { SpendsFor C0.field C1.field D.field (length (Q0.bytes key0.now))
-            (length (Q1.bytes key1.now)) (length (R.bytes value.now)) 1 self.old self.new }
-    {
-        let place = self.place(key0, key1);
-        if !self.takes(place, key0, key1, value) {
-            return Err(TooLarge);
-        }
-        self.put_at(place, key0, key1, value);
-        Ok(place.is_pair())
-    }
-
-    /// Takes a pair of keys out, with its row where that was its only pair, and says whether it was
-    /// there.
-    pub(crate) fn discard<Q0: ZvOrdArg<K0>, Q1: ZvOrdArg<K1>>(
-        &mut self,
+        place: Place,
         key0: &Q0,
         key1: &Q1,
     ) -> bool
         requires well { IsWell K0.cmp K1.cmp self.old.rows }
-        requires key0 { length (Q0.bytes key0.now) < 2 ^ 64 }
-        requires key1 { length (Q1.bytes key1.now) < 2 ^ 64 }
+        requires place { IsPlace K0.cmp K1.cmp self.old.rows (Q0.bytes key0.now)
+            (Q1.bytes key1.now) place }
         requires owned { IsOwned self.old }
         ensures rows { self.new.rows
             ≡ del K0.cmp K1.cmp self.old.rows (Q0.bytes key0.now) (Q1.bytes key1.now) }
@@ -529,7 +561,7 @@ impl<
             (Q0.bytes key0.now) (Q1.bytes key1.now)) }
         ensures spends { SpendsFor C0.field C1.field D.field 0 0 0 0 self.old self.new }
     {
-        let Place::Pair { row, pair } = self.place(key0, key1) else {
+        let Place::Pair { row, pair } = self.same_place(place, key0, key1) else {
             return false;
         };
         self.remove_at(row, pair);

@@ -283,7 +283,7 @@ impl<
             K0.cmp K1.cmp self.now.rows
             (Q0.bytes key0.now) (Q1.bytes key1.now) (R.bytes value.now) }
     {
-        self.columns.would_take(key0, key1, value)
+        self.takes_at(self.find_place(key0, key1), key0, key1, value)
     }
 
     /// Gives a pair of keys a value, in room that was made for it, and says whether the pair was
@@ -318,7 +318,12 @@ impl<
         ensures spends { SpendsFor C0.field C1.field D.field (length (Q0.bytes key0.now))
             (length (Q1.bytes key1.now)) (length (R.bytes value.now)) 1 self.old self.new }
     {
-        self.columns.put_reserved(key0, key1, value)
+        let place = self.find_place(key0, key1);
+        if !self.takes_at(place, key0, key1, value) {
+            return Err(TooLarge);
+        }
+        self.put_at(place, key0, key1, value);
+        Ok(place.is_pair())
     }
 
     /// Takes a pair of keys out, with its row where that was its only pair, and says whether it was
@@ -333,7 +338,8 @@ impl<
             (Q0.bytes key0.now) (Q1.bytes key1.now)) }
         ensures spends { SpendsFor C0.field C1.field D.field 0 0 0 0 self.old self.new }
     {
-        self.columns.discard(key0, key1)
+        let place = self.find_place(key0, key1);
+        self.discard_at(place, key0, key1)
     }
 
     /// Gives a pair of keys a value, and gives back the value that it had.

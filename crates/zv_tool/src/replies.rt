@@ -1,22 +1,23 @@
 // The replies to commands, which are written as they run.
 ghost use Rattle.std.specs.Prelude.{◌≡◌, ◌++◌, true, OnErr, OnOk};
 ghost use Rattle.std.specs.List.{flat_map};
-ghost use Rattle.std.specs.Option.{option_map_or};
+ghost use Rattle.std.specs.Option.{option_map, option_map_or};
 ghost use Rattle.hex.specs.Hex.{encode_lower};
 ghost use Rattle.zv_map2d.specs.Fits.{fits_texts};
 ghost use Rattle.zv_map2d.specs.Image.{by_bytes};
 ghost use Rattle.zv_map.specs.Iters.{left_of};
+ghost use Rattle.zv_map2d.specs.Places.{IsPlace};
 ghost use Rattle.zv_map2d.specs.Rows.{find, put};
+ghost use Rattle.zv_ule.specs.Views.{element_of};
 ghost use Rattle.zv_tool.specs.Answers.{reply, next};
-ghost use Rattle.zv_tool.specs.Output.{line, pair_text, text};
+ghost use Rattle.zv_tool.specs.Output.{added, line, old, pair_text, text};
 ghost use Rattle.zv_tool.specs.Room.{HasRoomOf, SpendsOf, sizes_of};
 ghost use Rattle.zv_tool.specs.Sending.{Sends};
 
 use crate::command::{Command, KeyText, ValueBytes};
 use crate::device::{Failed, Sink};
 use crate::output::Output;
-use zv_map::TooLarge;
-use zv_map2d::{Iter1, ZeroMap2d};
+use zv_map2d::{Iter1, Place, ZeroMap2d};
 use zv_ule::{SliceULE, StrULE, VarRef};
 
 /// The map of an image.
@@ -57,20 +58,18 @@ fn write_pairs<K: Sink>(
     Ok(())
 }
 
-// Writes a line of a head and the value that a pair has, or another text where it has none.
+// Writes a line of a head and a value, or another text where there is none.
 fn write_found<K: Sink>(
     out: &mut Output<'_, K>,
-    map: &ImageMap<'_>,
-    key0: &KeyText,
-    key1: &KeyText,
+    found: Option<VarRef<'_, SliceULE<u8>>>,
     head: &[u8],
     missing: &[u8],
 ) -> Result<(), Failed>
     ensures { Sends K.taken K.faults out.old out.new result (option_map_or
         (λ value. line (head.now ++ encode_lower value))
-        (find by_bytes by_bytes map.now.rows key0.now key1.now) missing.now) }
+        (option_map element_of found.entry) missing.now) }
 {
-    match map.get_2d(&key0.as_str(), &key1.as_str()) {
+    match found {
         Some(value) => write_value(out, head, value.as_bytes()),
         None => out.write(missing),
     }
@@ -86,20 +85,23 @@ fn get<K: Sink>(
     ensures { Sends K.taken K.faults out.old out.new result
         (text (reply map.now.rows (Command.Get key0.now key1.now))) }
 {
-    write_found(out, map, key0, key1, b"some x", b"none\n")
+    let found = map.get_2d(&key0.as_str(), &key1.as_str());
+    write_found(out, found, b"some x", b"none\n")
 }
 
-// Whether a value for a pair fits.
-fn fits(map: &ImageMap<'_>, key0: &KeyText, key1: &KeyText, value: &ValueBytes) -> bool
+// Whether a value for a pair fits at its place.
+fn fits(map: &ImageMap<'_>, place: Place, key0: &str, key1: &str, value: &ValueBytes) -> bool
+    requires { IsPlace by_bytes by_bytes map.now.rows key0.now key1.now place }
     ensures { result ≡ fits_texts map.now.rows key0.now key1.now value.now }
 {
     map.in_order();
     let value = VarRef::of_bytes(value.as_bytes());
-    map.would_take(&key0.as_str(), &key1.as_str(), &value)
+    map.takes_at(place, &key0, &key1, &value)
 }
 
-// Gives a pair a value, which fits.
-fn put_fitting(map: &mut ImageMap<'_>, key0: &KeyText, key1: &KeyText, value: &ValueBytes)
+// Gives a pair a value, which fits, at its place.
+fn put_fitting(map: &mut ImageMap<'_>, place: Place, key0: &str, key1: &str, value: &ValueBytes)
+    requires place { IsPlace by_bytes by_bytes map.old.rows key0.now key1.now place }
     requires fits { fits_texts map.old.rows key0.now key1.now value.now ≡ true }
     requires room { HasRoomOf (sizes_of (Command.Put key0.now key1.now value.now)) map.old }
     ensures rows { map.new.rows
@@ -109,10 +111,32 @@ fn put_fitting(map: &mut ImageMap<'_>, key0: &KeyText, key1: &KeyText, value: &V
 {
     map.in_order();
     let value = VarRef::of_bytes(value.as_bytes());
-    match map.put_reserved(&key0.as_str(), &key1.as_str(), &value) {
-        Ok(_) => {}
-        Err(TooLarge) => unreachable!(),
-    }
+    map.put_at(place, &key0, &key1, &value);
+}
+
+// Replies to a put of a value that fits, and then does it.
+fn put_at<K: Sink>(
+    out: &mut Output<'_, K>,
+    map: &mut ImageMap<'_>,
+    place: Place,
+    key0: &str,
+    key1: &str,
+    value: &ValueBytes,
+) -> Result<(), Failed>
+    requires place { IsPlace by_bytes by_bytes map.old.rows key0.now key1.now place }
+    requires fits { fits_texts map.old.rows key0.now key1.now value.now ≡ true }
+    requires room { HasRoomOf (sizes_of (Command.Put key0.now key1.now value.now)) map.old }
+    ensures text { Sends K.taken K.faults out.old out.new result (text (option_map_or old
+        (find by_bytes by_bytes map.old.rows key0.now key1.now) added)) }
+    ensures left { OnOk result (map.new.rows
+        ≡ put by_bytes by_bytes map.old.rows key0.now key1.now value.now) }
+    ensures same { OnErr result (map.new.rows ≡ map.old.rows) }
+    ensures spends { SpendsOf (sizes_of (Command.Put key0.now key1.now value.now))
+        map.old map.new }
+{
+    write_found(out, map.value_at(place, &key0, &key1), b"old x", b"new\n")?;
+    put_fitting(map, place, key0, key1, value);
+    Ok(())
 }
 
 // Replies to a put, and then does it, where the value fits.
@@ -132,12 +156,12 @@ fn put<K: Sink>(
     ensures spends { SpendsOf (sizes_of (Command.Put key0.now key1.now value.now))
         map.old map.new }
 {
-    if !fits(map, key0, key1, value) {
+    let (key0, key1) = (key0.as_str(), key1.as_str());
+    let place = map.find_place(&key0, &key1);
+    if !fits(map, place, key0, key1, value) {
         return out.write(b"toolarge\n");
     }
-    write_found(out, map, key0, key1, b"old x", b"new\n")?;
-    put_fitting(map, key0, key1, value);
-    Ok(())
+    put_at(out, map, place, key0, key1, value)
 }
 
 // Replies to a removal, and then does it.
@@ -155,8 +179,10 @@ fn del<K: Sink>(
     ensures same { OnErr result (map.new.rows ≡ map.old.rows) }
     ensures spends { SpendsOf (sizes_of (Command.Del key0.now key1.now)) map.old map.new }
 {
-    write_found(out, map, key0, key1, b"old x", b"none\n")?;
-    map.discard(&key0.as_str(), &key1.as_str());
+    let (key0, key1) = (key0.as_str(), key1.as_str());
+    let place = map.find_place(&key0, &key1);
+    write_found(out, map.value_at(place, &key0, &key1), b"old x", b"none\n")?;
+    map.discard_at(place, &key0, &key1);
     Ok(())
 }
 

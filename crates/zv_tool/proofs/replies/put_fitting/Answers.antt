@@ -1,12 +1,17 @@
-use Rattle.std.proofs.Common.{◌≡◌, false, true, rules, ◌∙◌}
+use Rattle.std.proofs.Common.{◌≡◌, ◌∙◌, Bool, rules, true}
+use Rattle.zv_map.specs.Reserved.{IsTaken}
+use Rattle.zv_map2d.specs.Fits.{fits_texts}
 use Rattle.zv_map2d.proofs.Kept.{fits_alike}
 use Rattle.zv_tool.proofs.replies.put_fitting.Goals as goal
 
-pub unreachable-requires : goal.unreachable-requires
-unreachable-requires c =
+IsTaken-from : {takes : Bool} → takes ≡ true → IsTaken takes
+IsTaken-from is = record { taken = is }
+
+pub put_at-requires : goal.put_at-requires
+put_at-requires c =
+    let m = c.args.map.now.rows in
     let v = c.of_bytes-value.result.bytes.now in
     let same : v ≡ c.args.value.now = search rules in
-    let alike = fits_alike c.args.map.now.rows c.as_str.result.now c.as_str-2.result.now v c.in_order.ensures in
-    let no = rw (same, c.as_str.ensures, c.as_str-2.ensures) at (c.in-Err.ensures.refused ∙ alike) in
-    let contradiction : false ≡ true = no ∙ c.requires.fits in
-    cc
+    let fits : fits_texts m c.args.key0.now c.args.key1.now v ≡ true = rw same c.requires.fits in
+    let taken = IsTaken-from (fits_alike m c.args.key0.now c.args.key1.now v c.in_order.ensures ∙ fits) in
+    search rules

@@ -1,12 +1,9 @@
-use Rattle.std.proofs.Common.{ap}
-use Rattle.std.proofs.lemmas.Result.{on_err_weaker}
-use Rattle.zv_map2d.specs.Views.{Map2d}
-use Rattle.zv_map2d.proofs.Well.{changed_well, put_well}
+use Rattle.std.proofs.Common.{is_some, sym, ◌∙◌, ap}
+use Rattle.zv_map2d.proofs.Places.{find_is, pair_found}
 use Rattle.zv_map2d.proofs.map.Map2dOver.put_reserved.Goals as goal
 
-pub invariant_of-self : goal.invariant_of-self
-invariant_of-self g c =
-    changed_well c.self.inside.columns c.put_reserved.new.self g.K0.ZvOrd.cmp g.K1.ZvOrd.cmp _
-    (put_well g.met.K0.ZvOrd.total g.met.K1.ZvOrd.total c.self.inside.columns.rows
-    (g.Q0.ZvArg.bytes c.args.key0.now) c.self.invariant (g.Q1.ZvArg.bytes c.args.key1.now) (g.R.ZvArg.bytes c.args.value.now)) c.self.invariant
-    c.put_reserved.result c.put_reserved.ensures.rows (on_err_weaker c.put_reserved.result (λ e. ap (λ (m : Map2d). m.rows) e) c.put_reserved.ensures.err)
+pub returns-clause-found : goal.returns-clause-found
+returns-clause-found g c =
+    let here = find_is g.met.K0.ZvOrd.total g.met.K1.ZvOrd.total c.args.self.now.rows (g.Q0.ZvArg.bytes c.args.key0.now) (g.Q1.ZvArg.bytes c.args.key1.now)
+    c.find_place-place.result c.find_place-place.ensures in
+    c.is_pair.ensures ∙ sym (ap (λ o. is_some o) here ∙ pair_found c.args.self.now.rows c.find_place-place.result)

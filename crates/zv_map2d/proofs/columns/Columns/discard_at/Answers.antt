@@ -2,7 +2,7 @@ use Rattle.std.proofs.Common.{is_some, sym, ◌∙◌, ap}
 use Rattle.zv_map2d.specs.declared.place.Place.TheVariants.{Pair}
 use Rattle.zv_map2d.proofs.Places.{del_is, find_is, nothing_gone, nothing_there}
 use Rattle.zv_map2d.proofs.Room.{unspent}
-use Rattle.zv_map2d.proofs.columns.Columns.discard.Goals as goal
+use Rattle.zv_map2d.proofs.columns.Columns.discard_at.Goals as goal
 
 pub returns-in_default : goal.returns-in_default
 returns-in_default g c =
@@ -10,10 +10,10 @@ returns-in_default g c =
     let k0 = g.Q0.ZvArg.bytes c.args.key0.now in
     let k1 = g.Q1.ZvArg.bytes c.args.key1.now in
     record {
-      rows = sym (del_is g.met.K0.ZvOrd.total g.met.K1.ZvOrd.total m k0 k1 c.requires.well c.place.result c.place.ensures
-          ∙ nothing_gone m c.place.result c.in_default.not-Pair);
-      found = sym (ap (λ o. is_some o) (find_is g.met.K0.ZvOrd.total g.met.K1.ZvOrd.total m k0 k1 c.place.result c.place.ensures
-          ∙ nothing_there m c.place.result c.in_default.not-Pair));
+      rows = sym (del_is g.met.K0.ZvOrd.total g.met.K1.ZvOrd.total m k0 k1 c.requires.well c.same_place.result c.same_place.ensures
+          ∙ nothing_gone m c.same_place.result c.in_default.not-Pair);
+      found = sym (ap (λ o. is_some o) (find_is g.met.K0.ZvOrd.total g.met.K1.ZvOrd.total m k0 k1 c.same_place.result c.same_place.ensures
+          ∙ nothing_there m c.same_place.result c.in_default.not-Pair));
       spends = unspent c.requires.owned;
     }
 

@@ -1,0 +1,23 @@
+use Rattle.std.proofs.Common.{◌≡◌, ◌∙◌, ℕ, List, Bool, false, true, ap, rules, sym}
+use Rattle.std.specs.Prelude.{if◌then◌else◌}
+use Rattle.std.specs.Option.{option_map_or}
+use Rattle.zv_map2d.specs.Fits.{fits_texts}
+use Rattle.zv_map2d.specs.Image.{by_bytes}
+use Rattle.zv_map2d.specs.Rows.{find}
+use Rattle.zv_tool.specs.Output.{Reply, added, old, text, too_large}
+use Rattle.zv_tool.proofs.Sending.{sends_as}
+use Rattle.zv_tool.proofs.replies.put.Goals as goal
+
+pub returns-then-not-fits-clause-text : goal.returns-then-not-fits-clause-text
+returns-then-not-fits-clause-text g c =
+    let m = c.args.map.now.rows in
+    let fit : fits_texts m c.args.key0.now c.args.key1.now c.args.value.now ≡ false = search rules in
+    sends_as (ap (λ (b : Bool). text (if b then option_map_or old (find by_bytes by_bytes m c.args.key0.now c.args.key1.now) added else too_large)) fit) c.write.ensures
+
+pub returns-clause-text : goal.returns-clause-text
+returns-clause-text g c =
+    let m = c.args.map.now.rows in
+    let fit : fits_texts m c.args.key0.now c.args.key1.now c.args.value.now ≡ true = search rules in
+    let found : List ℕ → List ℕ → Reply = λ a b. option_map_or old (find by_bytes by_bytes m a b) added in
+    sends_as (ap (λ (b : Bool). text (if b then found c.args.key0.now c.args.key1.now else too_large)) fit
+    ∙ (λ i. text (found (sym c.as_str-key0.ensures i) (sym c.as_str-key1.ensures i)))) c.put_at.ensures.text
