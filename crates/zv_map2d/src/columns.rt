@@ -5,6 +5,7 @@ ghost use Rattle.zv_ule.specs.Bytes.{le};
 ghost use Rattle.std.specs.Result.{MatchResult};
 ghost use Rattle.zv_ule.specs.Search.{IsGap, compared};
 ghost use Rattle.zv_map.specs.Maps.{IsAt, keys_of};
+ghost use Rattle.zv_map2d.specs.FiniteMap.{AreElements};
 ghost use Rattle.zv_map2d.specs.Rows.{IsWell, before, ends, firsts, row_at, seconds};
 ghost use Rattle.zv_map2d.specs.Rows.{values};
 ghost use Rattle.zv_map2d.specs.Views.{KeepsRoom, ReadsAs, bytes_of, no_bytes, parts_of};
@@ -15,6 +16,7 @@ use crate::order::number_at;
 use crate::parts::Parts;
 use std::marker::{Model, PhantomData};
 use zv_fixed::ZeroVec;
+use zv_map::laws::elements_are_valid;
 use zv_map::{ZeroVecSearch, ZvContainer};
 use zv_ule::{ZvKind, ZvOrd, ZvOrdArg};
 
@@ -226,6 +228,16 @@ impl<
             keys1: self.keys1.zvl_bytes(),
             values: self.values.zvl_bytes(),
         }
+    }
+
+    /// The keys are elements of their kinds. The call is for proofs: it does nothing to the map.
+    #[inline]
+    pub(crate) fn keys_are_valid(&self)
+        ensures { AreElements K0.fault K1.fault self.now.rows }
+    {
+        let all = self.parts();
+        elements_are_valid::<K0, C0>(all.keys0);
+        elements_are_valid::<K1, C1>(all.keys1);
     }
 
     /// The bytes that the four lists are written as.

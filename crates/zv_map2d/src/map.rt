@@ -19,7 +19,6 @@ use crate::parts::Parts;
 use std::alloc::Global;
 use std::marker::{Model, PhantomData};
 use zv_fixed::ZeroVec;
-use zv_map::laws::elements_are_valid;
 use zv_map::{MutableZeroVecLike, TooLarge, ZeroMapKV, ZvContainer};
 use zv_ule::{NoMemory, ZvArg, ZvKind, ZvOrd, ZvOrdArg};
 
@@ -148,9 +147,7 @@ impl<
         ensures ascending { IsWell K0.cmp K1.cmp self.now.rows }
         ensures keys { AreElements K0.fault K1.fault self.now.rows }
     {
-        let parts = self.columns.parts();
-        elements_are_valid::<K0, C0>(parts.keys0);
-        elements_are_valid::<K1, C1>(parts.keys1);
+        self.columns.keys_are_valid();
     }
 }
 
