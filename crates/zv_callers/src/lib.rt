@@ -1,6 +1,7 @@
 //! Callers of the crates with contracts of their own, as a crate over them has.
 #![tactic(auto)]
 
+pub mod codes;
 pub mod names;
 pub mod regions;
 pub mod scores;

@@ -1,5 +1,5 @@
 -- What is hashed for keys.
-use Rattle.std.specs.Prelude.{ℕ, List, ◌++◌}
+use Rattle.std.specs.Prelude.{ℕ, List, [], ◌∷◌, ◌++◌}
 use Rattle.zv_xxhash.specs.Digest.{xxh64}
 use Rattle.zv_xxhash.specs.Held.{Holds}
 use Rattle.zv_xxhash.specs.declared.hasher.XxHash64.{XxHash64}
@@ -12,6 +12,10 @@ Writes before after bytes = (seed : ℕ) (written : List ℕ) → Holds before s
 -- the hash of a key for which a kind's elements are hashed as `hashed` says
 abbrev pub key_hash : (List ℕ → List ℕ) → List ℕ → ℕ
 key_hash hashed key = xxh64 0xAABBCCDD (hashed key)
+
+-- what is hashed for a text: its bytes, and 0xFF behind them
+abbrev pub hashed_text : List ℕ → List ℕ
+hashed_text text = text ++ 0xFF ∷ []
 
 -- what is hashed for a tuple: its parts in turn
 abbrev pub hashed_two : {A B : Type 0} → (A → List ℕ) → (B → List ℕ) → A × B → List ℕ
