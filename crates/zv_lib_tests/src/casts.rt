@@ -24,7 +24,10 @@ fn values_are_converted(rt: HostRuntime) -> Result<(), Fail> {
     assert!(rt; map.get_copied(&9) == NonZeroU8::new(255));
     let map = ZeroMap::<'_, u32, u8>::try_from_pairs(rt.alloc(), &[(4, 1), (9, 0)])?;
     let refused = map.try_convert_zv_v_unchecked::<NonZeroU8, ZeroVec<'_, NonZeroU8>>();
-    assert!(rt; refused.err() == Some(UleError::ParseError { ty: TyName::NonZeroU8 }));
+    let zero = UleError::ParseError {
+        ty: TyName::NonZeroU8,
+    };
+    assert!(rt; refused.err() == Some(zero));
     Ok(())
 }
 

@@ -36,11 +36,13 @@ module _ {usable : Bool} {fault f : List ℕ → Option UleError} {ty : TyName} 
   each_chunk (suc n) b fits each good =
       let both = or_none (f (take w b)) (first_fault f (chunks w n (drop w b))) good in
       let long = length-take-le w b (omega (arith, fits, suc-mul n w)) in
-      let rest : n * w ≤ length (drop w b) = omega (arith, fits, suc-mul n w, length-drop w b) in
-      (record {
-        bytes = take_bytes w b each;
-        valid = kind.errors (take w b) ∙ good_one ty w f (take w b) long both.0;
-      }, each_chunk n (drop w b) rest (back_bytes w b each) both.1)
+      let rest : n * w ≤ length (drop w b) = omega (arith, fits, suc-mul n w, length-drop w b) in (
+        record {
+          bytes = take_bytes w b each;
+          valid = kind.errors (take w b) ∙ good_one ty w f (take w b) long both.0;
+        },
+        each_chunk n (drop w b) rest (back_bytes w b each) both.1,
+      )
 
   -- each chunk of bytes without a fault is an element
   pub chunks_valid : (b : List ℕ) → IsBytes b → chunks_fault ty w f b ≡ None →
@@ -55,9 +57,10 @@ module _ (K : List ℕ → Option UleError) where
       AllByRecursion (λ x. K x ≡ None) (pieces d s es) →
       AllByRecursion (IsElementOf K) (pieces d s es)
   each_piece d s [] each good = tt
-  each_piece d s (e ∷ es) each good =
-      (record { bytes = take_bytes (e - s) (drop s d) (back_bytes s d each); valid = good.0 },
-      each_piece d e es each good.1)
+  each_piece d s (e ∷ es) each good = (
+    record { bytes = take_bytes (e - s) (drop s d) (back_bytes s d each); valid = good.0 },
+    each_piece d e es each good.1,
+  )
 
   unless : (c : Bool) (xs : List (List ℕ)) →
       (AllByRecursion (λ x. K x ≡ None) xs → AllByRecursion (IsElementOf K) xs) →
