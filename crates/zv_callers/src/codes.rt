@@ -57,9 +57,8 @@ pub fn first_unlisted(
         (λ country. is_none (look_up (slice_cmp nat_cmp) given country.now)) countries.now) }
 {
     let codes = build_codes(alloc, list)?;
-    Ok(
-        countries
-            .iter()
-            .position(|country| code_of(&codes, country).is_none()),
-    )
+    let place = countries
+        .iter()
+        .position(|country| code_of(&codes, country).is_none());
+    Ok(place)
 }
