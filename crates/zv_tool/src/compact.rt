@@ -8,8 +8,7 @@ use std::alloc::Global;
 use std::marker::Model;
 use zv_ule::NoMemory;
 
-// The most bytes that stand in place. (12 are copied as two words that don't overlap; 14 would fit
-// too, but are slower.)
+// The most bytes that stand in place.
 const IN_PLACE: usize = 12;
 
 // The kinds of content: any bytes, and bytes that are UTF-8 (RFC 3629).
@@ -17,10 +16,11 @@ pub(crate) const BYTES: u8 = 0;
 
 pub(crate) const TEXT: u8 = 1;
 
-// The vector is boxed so that either variant fits 16 bytes.
+// The vector is boxed so that either variant fits 16 bytes. The length has two bytes so that the
+// others start at the fourth: then a copy of them is two words that don't overlap.
 #[derive(Drop)]
 enum Stored {
-    Few { len: u8, bytes: [u8; IN_PLACE] },
+    Few { len: u16, bytes: [u8; IN_PLACE] },
     Many(Box<Vec<u8>>),
 }
 
@@ -116,7 +116,7 @@ impl<const KIND: u8> CompactBytes<KIND> {
         requires content { IsTrue (is_of_kind KIND (take len bytes)) }
         ensures { result ≡ take len bytes }
     {
-        let len = len as u8;
+        let len = len as u16;
         CompactBytes {
             stored: Stored::Few { len, bytes },
         }

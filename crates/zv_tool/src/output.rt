@@ -96,12 +96,28 @@ impl<'s, K: Sink> Output<'s, K> {
         Ok(())
     }
 
-    /// Adds a head, which ends with the mark of a field, and the hex digits of the field's bytes.
-    pub(crate) fn write_field(&mut self, head: &[u8], bytes: &[u8]) -> Result<(), Failed>
+    // The same in pieces.
+    fn write_long_field(&mut self, head: &[u8], bytes: &[u8]) -> Result<(), Failed>
         ensures { Sends K.taken K.faults self.old self.new result
             (head.now ++ encode_lower bytes.now) }
     {
         self.write(head)?;
         self.write_hex(bytes)
+    }
+
+    /// Adds a head, which ends with the mark of a field, and the hex digits of the field's bytes:
+    /// straight where they are few and there is room for all of them.
+    #[inline(always)]
+    pub(crate) fn write_field(&mut self, head: &[u8], bytes: &[u8]) -> Result<(), Failed>
+        ensures { Sends K.taken K.faults self.old self.new result
+            (head.now ++ encode_lower bytes.now) }
+    {
+        let room = self.piece.room();
+        if head.len() > FEW || bytes.len() > FEW || head.len() + 2 * bytes.len() > room {
+            return self.write_long_field(head, bytes);
+        }
+        self.piece.push(head);
+        self.piece.push_hex(bytes);
+        Ok(())
     }
 }

@@ -57,6 +57,7 @@ impl Piece {
     }
 
     /// Adds bytes, for which there is room.
+    #[inline(always)]
     pub(crate) fn push(&mut self, bytes: &[u8])
         requires { length self.old + length bytes.now ≤ 4096 }
         ensures { self.new ≡ self.old ++ bytes.now }
@@ -67,6 +68,7 @@ impl Piece {
     }
 
     /// Adds the hex digits of bytes, for which there is room.
+    #[inline]
     pub(crate) fn push_hex(&mut self, bytes: &[u8])
         requires { length self.old + 2 * length bytes.now ≤ 4096 }
         ensures { self.new ≡ self.old ++ encode_lower bytes.now }

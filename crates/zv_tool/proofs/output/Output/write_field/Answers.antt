@@ -1,9 +1,10 @@
-use Rattle.std.proofs.Common.{rules}
-use Rattle.zv_tool.proofs.Sending.{sends_cut, sends_then}
+use Rattle.std.proofs.Common.{◌++◌, List, ℕ, ◌∙◌, ap, append_assoc, rules}
+use Rattle.hex.specs.Hex.{encode_lower}
+use Rattle.zv_tool.proofs.Sending.{sends_later}
 use Rattle.zv_tool.proofs.output.Output.write_field.Goals as goal
 
-pub returns-in_err-write : goal.returns-in_err-write
-returns-in_err-write g c = sends_cut _ c.write.ensures (search rules) (search rules)
-
 pub returns : goal.returns
-returns g c = sends_then c.write.ensures (search rules) c.write_hex.ensures
+returns g c =
+    let hex = encode_lower c.args.bytes.now in
+    sends_later (search rules)
+    (c.push_hex.ensures ∙ ap (λ (l : List ℕ). l ++ hex) c.push.ensures ∙ append_assoc c.args.self.now.piece c.args.head.now hex)
