@@ -2,45 +2,35 @@
 ghost use Rattle.std.specs.Prelude.{IsTrue};
 
 use std::alloc::Global;
+use std::process::Abort;
 use std::test::Fail;
 use zv_ule::{
-    CharULE, EncodeAsVarULE, NoMemory, SliceULE, StrULE, VarBox, VarRef, VarULE,
-    encode_varule_to_box,
+    CharULE, EncodeAsVarULE, SliceULE, StrULE, VarBox, VarRef, VarULE, encode_varule_to_box,
 };
 
-// Whether these bytes are written for a value, and stand in its box, in the copy of that, and in a
-// box of what the copy views.
+// These bytes are written for a value, and stand in its box, in the copy of that, and in a box of
+// what the copy views.
 fn is_written_as<K: VarULE, S: EncodeAsVarULE<K>>(
+    rt: &impl Abort,
     alloc: Global,
     value: &S,
     bytes: &[u8],
-) -> Result<bool, NoMemory>
+) -> Result<(), Fail>
     requires { IsTrue K.usable }
 {
-    if !value.encode_var_ule_fits() {
-        return Ok(false);
-    }
+    assert!(rt; value.encode_var_ule_fits());
     let written = encode_varule_to_box::<S, K>(alloc, value)?;
-    Ok(*written.as_bytes() == *bytes && is_copied(alloc, &written)?)
+    assert!(rt; *written.as_bytes() == *bytes);
+    is_copied(rt, alloc, &written)
 }
 
-// Whether a copy of the box has its bytes, and a box of what the copy views.
-fn is_copied<K: VarULE>(alloc: Global, written: &VarBox<K>) -> Result<bool, NoMemory> {
+// A copy of the box has its bytes, and so has a box of what the copy views.
+fn is_copied<K: VarULE>(rt: &impl Abort, alloc: Global, written: &VarBox<K>) -> Result<(), Fail> {
     let copied = written.clone(alloc)?;
-    if *copied.as_bytes() != *written.as_bytes() {
-        return Ok(false);
-    }
-    is_boxed(alloc, copied.as_ref(), written.as_bytes())
-}
-
-// Whether a box of what is viewed has these bytes.
-fn is_boxed<K: VarULE>(
-    alloc: Global,
-    viewed: VarRef<'_, K>,
-    bytes: &[u8],
-) -> Result<bool, NoMemory> {
-    let boxed = viewed.to_boxed(alloc)?;
-    Ok(*boxed.into_bytes() == *bytes)
+    assert!(rt; *copied.as_bytes() == *written.as_bytes());
+    let boxed = copied.as_ref().to_boxed(alloc)?;
+    assert!(rt; *boxed.into_bytes() == *written.as_bytes());
+    Ok(())
 }
 
 #[test]
@@ -48,10 +38,10 @@ fn texts_are_written(rt: HostRuntime) -> Result<(), Fail> {
     let alloc = rt.alloc();
     let text = String::from_str(alloc, "ab")?;
     let view = VarRef::of_str("ab");
-    assert!(rt; is_written_as::<StrULE, &str>(alloc, &"ab", b"ab")?);
-    assert!(rt; is_written_as::<StrULE, String>(alloc, &text, b"ab")?);
-    assert!(rt; is_written_as::<StrULE, &String>(alloc, &&text, b"ab")?);
-    assert!(rt; is_written_as::<StrULE, VarRef<'_, StrULE>>(alloc, &view, b"ab")?);
+    is_written_as::<StrULE, &str>(&rt, alloc, &"ab", b"ab")?;
+    is_written_as::<StrULE, String>(&rt, alloc, &text, b"ab")?;
+    is_written_as::<StrULE, &String>(&rt, alloc, &&text, b"ab")?;
+    is_written_as::<StrULE, VarRef<'_, StrULE>>(&rt, alloc, &view, b"ab")?;
     Ok(())
 }
 
@@ -59,9 +49,9 @@ fn texts_are_written(rt: HostRuntime) -> Result<(), Fail> {
 fn boxes_are_written(rt: HostRuntime) -> Result<(), Fail> {
     let alloc = rt.alloc();
     let owned: VarBox<StrULE> = encode_varule_to_box(alloc, &"ab")?;
-    assert!(rt; is_written_as::<StrULE, VarBox<StrULE>>(alloc, &owned, b"ab")?);
+    is_written_as::<StrULE, VarBox<StrULE>>(&rt, alloc, &owned, b"ab")?;
     let listed = owned.into_bytes();
-    assert!(rt; is_written_as::<SliceULE<u8>, Vec<u8>>(alloc, &listed, b"ab")?);
+    is_written_as::<SliceULE<u8>, Vec<u8>>(&rt, alloc, &listed, b"ab")?;
     Ok(())
 }
 
@@ -71,7 +61,7 @@ fn slices_are_written(rt: HostRuntime) -> Result<(), Fail> {
     let chars = CharULE::from_array(['a', 'Ā']);
     let list = Vec::from_slice(alloc, &chars)?;
     let bytes = b"\x61\0\0\0\x01\0";
-    assert!(rt; is_written_as::<SliceULE<CharULE>, &[CharULE]>(alloc, &chars.as_slice(), bytes)?);
-    assert!(rt; is_written_as::<SliceULE<CharULE>, Vec<CharULE>>(alloc, &list, bytes)?);
+    is_written_as::<SliceULE<CharULE>, &[CharULE]>(&rt, alloc, &chars.as_slice(), bytes)?;
+    is_written_as::<SliceULE<CharULE>, Vec<CharULE>>(&rt, alloc, &list, bytes)?;
     Ok(())
 }

@@ -12,35 +12,39 @@ use zv_ule::{
     VarBox, encode_varule_to_box,
 };
 
-// What stored values are written as, one after another.
-fn written<U: ULE>(
+// Stored values are written as these bytes, one after another.
+fn are_written<U: ULE>(
     rt: &impl Abort,
     alloc: Global,
     stored: &[U],
-) -> Result<VarBox<SliceULE<U>>, Fail>
+    bytes: &[u8],
+) -> Result<(), Fail>
     requires { IsTrue (is_width U.width) }
 {
     assert!(rt; stored.encode_var_ule_fits());
-    Ok(encode_varule_to_box(alloc, &stored)?)
+    let list: VarBox<SliceULE<U>> = encode_varule_to_box(alloc, &stored)?;
+    assert!(rt; *list.as_bytes() == *bytes);
+    Ok(())
 }
 
-// Whether bytes are the list of these values.
-fn are_values<T: AsULE + PartialEq>(bytes: &[u8], values: &[T]) -> bool
+// The bytes are the list of these values.
+fn are_values<T: AsULE + PartialEq>(rt: &impl Abort, bytes: &[u8], values: &[T])
     requires { IsTrue T.usable }
 {
     let Ok(list) = ZeroSlice::<T>::parse_bytes(bytes) else {
-        return false;
+        panic!(rt; "the bytes are a list");
     };
-    if list.len() != values.len() {
-        return false;
-    }
+    assert!(rt; list.len() == values.len());
     for (index, value) in values.iter().enumerate() {
-        match list.get(index) {
-            Some(read) if read == *value => {}
-            _ => return false,
-        }
+        assert!(rt; list.get(index) == Some(*value));
     }
-    true
+}
+
+// The bytes are refused with this error as stored values.
+fn are_refused<U: ULE>(rt: &impl Abort, bytes: &[u8], error: UleError)
+    requires { IsTrue (is_width U.width) }
+{
+    assert!(rt; U::validate_bytes(bytes) == Err(error));
 }
 
 #[test]
@@ -48,11 +52,9 @@ fn characters_take_three_bytes(rt: HostRuntime) -> Result<(), Fail> {
     let chars = ['w', 'ω', '文', '𑄃', '🙃'];
     let bytes = b"\x77\x00\x00\xc9\x03\x00\x87\x65\x00\x03\x11\x01\x43\xf6\x01";
     let stored = CharULE::from_array(chars);
-    assert!(rt; written(&rt, rt.alloc(), &stored)?.as_bytes() == bytes.as_slice());
-    assert!(rt; are_values::<char>(bytes, &chars));
-    let surrogate = <CharULE as ULE>::validate_bytes(b"\x00\xd8\x00");
-    assert!(rt; surrogate == Err(UleError::parse(TyName::Char)));
-    Ok(())
+    are_values::<char>(&rt, bytes, &chars);
+    are_refused::<CharULE>(&rt, b"\x00\xd8\x00", UleError::parse(TyName::Char));
+    are_written(&rt, rt.alloc(), &stored, bytes)
 }
 
 #[test]
@@ -64,11 +66,9 @@ fn pairs_are_their_parts(rt: HostRuntime) -> Result<(), Fail> {
         pairs[1].to_unaligned(),
         pairs[2].to_unaligned(),
     ];
-    assert!(rt; written(&rt, rt.alloc(), &stored)?.as_bytes() == bytes.as_slice());
-    assert!(rt; are_values::<(u32, char)>(bytes, &pairs));
-    let turned = <<(char, u32) as AsULE>::ULE as ULE>::validate_bytes(bytes);
-    assert!(rt; turned == Err(UleError::parse(TyName::Char)));
-    Ok(())
+    are_values::<(u32, char)>(&rt, bytes, &pairs);
+    are_refused::<<(char, u32) as AsULE>::ULE>(&rt, bytes, UleError::parse(TyName::Char));
+    are_written(&rt, rt.alloc(), &stored, bytes)
 }
 
 #[test]
@@ -80,37 +80,28 @@ fn triples_are_their_parts(rt: HostRuntime) -> Result<(), Fail> {
         triples[1].to_unaligned(),
         triples[2].to_unaligned(),
     ];
-    assert!(rt; written(&rt, rt.alloc(), &stored)?.as_bytes() == bytes.as_slice());
-    assert!(rt; are_values::<(u32, char, i8)>(bytes, &triples));
-    let turned = <<(char, i8, u32) as AsULE>::ULE as ULE>::validate_bytes(bytes);
-    assert!(rt; turned == Err(UleError::parse(TyName::Char)));
-    Ok(())
+    are_values::<(u32, char, i8)>(&rt, bytes, &triples);
+    are_refused::<<(char, i8, u32) as AsULE>::ULE>(&rt, bytes, UleError::parse(TyName::Char));
+    are_written(&rt, rt.alloc(), &stored, bytes)
 }
 
 #[test]
-fn arrays_divide_six_bytes(rt: HostRuntime) -> Result<(), Fail> {
+fn arrays_divide_six_bytes(rt: HostRuntime) {
     let bytes = [1u8, 2, 3, 4, 5, 6];
-    assert!(rt; are_values::<[u8; 2]>(&bytes, &[[1, 2], [3, 4], [5, 6]]));
-    assert!(rt; are_values::<[u8; 3]>(&bytes, &[[1, 2, 3], [4, 5, 6]]));
-    assert!(rt; are_values::<[u8; 6]>(&bytes, &[[1, 2, 3, 4, 5, 6]]));
-    let uneven = Err(UleError::length(TyName::Array, 6));
-    assert!(rt; <[u8; 4] as ULE>::validate_bytes(&bytes) == uneven);
-    assert!(rt; <[u8; 5] as ULE>::validate_bytes(&bytes) == uneven);
-    assert!(rt; <[u8; 7] as ULE>::validate_bytes(&bytes) == uneven);
-    Ok(())
+    are_values::<[u8; 2]>(&rt, &bytes, &[[1, 2], [3, 4], [5, 6]]);
+    are_values::<[u8; 3]>(&rt, &bytes, &[[1, 2, 3], [4, 5, 6]]);
+    are_values::<[u8; 6]>(&rt, &bytes, &[[1, 2, 3, 4, 5, 6]]);
+    let uneven = UleError::length(TyName::Array, 6);
+    are_refused::<[u8; 4]>(&rt, &bytes, uneven);
+    are_refused::<[u8; 5]>(&rt, &bytes, uneven);
+    are_refused::<[u8; 7]>(&rt, &bytes, uneven);
 }
 
 #[test]
-fn options_name_the_innermost_fault(rt: HostRuntime) -> Result<(), Fail> {
-    let one = NonZeroU8::new(1);
-    assert!(rt;
-        are_values::<NichedOption<NonZeroU8, 1>>(&[1, 0], &[NichedOption(one), NichedOption(None)])
-    );
-    let inner = <OptionULE<bool> as ULE>::validate_bytes(&[1, 2]);
-    assert!(rt; inner == Err(UleError::parse(TyName::Bool)));
-    let tag = <OptionULE<bool> as ULE>::validate_bytes(&[2, 0]);
-    assert!(rt; tag == Err(UleError::parse(TyName::Opt)));
-    let rest = <OptionULE<u8> as ULE>::validate_bytes(&[0, 5]);
-    assert!(rt; rest == Err(UleError::parse(TyName::Opt)));
-    Ok(())
+fn options_name_the_innermost_fault(rt: HostRuntime) {
+    let options = [NichedOption(NonZeroU8::new(1)), NichedOption(None)];
+    are_values::<NichedOption<NonZeroU8, 1>>(&rt, &[1, 0], &options);
+    are_refused::<OptionULE<bool>>(&rt, &[1, 2], UleError::parse(TyName::Bool));
+    are_refused::<OptionULE<bool>>(&rt, &[2, 0], UleError::parse(TyName::Opt));
+    are_refused::<OptionULE<u8>>(&rt, &[0, 5], UleError::parse(TyName::Opt));
 }

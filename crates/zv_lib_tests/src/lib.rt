@@ -2,8 +2,6 @@
 #![tactic(auto)]
 
 #[cfg(test)]
-mod appends;
-#[cfg(test)]
 mod casts;
 #[cfg(test)]
 mod containers;
@@ -21,6 +19,8 @@ mod hashes;
 mod lists;
 #[cfg(test)]
 mod look_ups;
+#[cfg(test)]
+mod many;
 #[cfg(test)]
 mod maps;
 #[cfg(test)]

@@ -32,12 +32,6 @@ const VALUES: &[u8] = b"\
     \x00.\x000\x002\x004\x006\x00JOSYIRBGGBGNGRCNIQGECNTRINGNCNPKCNINININPKKZNPAFCNTWTWT\
     W";
 
-// The languages.
-const LANGUAGES: [&str; 21] = [
-    "arc", "az", "cu", "en", "ff", "grc", "kk", "ku", "ky", "lif", "man", "mn", "pa", "pal", "sd",
-    "tg", "ug", "unr", "uz", "yue", "zh",
-];
-
 // A language, a script of it, and how many it has.
 const PAIRS: [(&str, &str, usize); 28] = [
     ("arc", "Nbat", 2),
@@ -87,88 +81,62 @@ fn is_between(count: usize, most: usize) -> bool {
     0 < count && count <= most
 }
 
-// How many comparisons a look-up of a pair makes.
-fn look_up_2d<C0: ZvContainer<StrULE>, C1: ZvContainer<StrULE>, D: ZvContainer<SliceULE<u8>>>(
-    map: &Map2dOver<'_, StrULE, StrULE, SliceULE<u8>, C0, C1, D>,
-    language: &str,
-    script: &str,
-) -> usize {
-    let count = Cell::new(0);
-    let language = CountingKey::new(language, &count);
-    let script = CountingKey::new(script, &count);
-    let _ = map.get_2d(&language, &script);
-    count.get()
+// A map of locales, and how many comparisons its look-ups make.
+trait Counts {
+    // A look-up of a pair.
+    fn in_map(&self, language: &str, script: &str) -> usize;
+
+    // A look-up of a row.
+    fn of_row(&self, language: &str) -> usize;
+
+    // A look-up in a row: none where the row is missing.
+    fn in_row(&self, language: &str, script: &str) -> usize;
 }
 
-// How many comparisons a look-up of a row makes.
-fn look_up_row<C0: ZvContainer<StrULE>, C1: ZvContainer<StrULE>, D: ZvContainer<SliceULE<u8>>>(
-    map: &Map2dOver<'_, StrULE, StrULE, SliceULE<u8>, C0, C1, D>,
-    language: &str,
-) -> usize {
-    let count = Cell::new(0);
-    let _ = map.get0(&CountingKey::new(language, &count));
-    count.get()
-}
-
-// How many comparisons a look-up in a row makes.
-fn look_up_in_row<C0: ZvContainer<StrULE>, C1: ZvContainer<StrULE>, D: ZvContainer<SliceULE<u8>>>(
-    rt: &impl Abort,
-    map: &Map2dOver<'_, StrULE, StrULE, SliceULE<u8>, C0, C1, D>,
-    language: &str,
-    script: &str,
-) -> usize {
-    let Some(row) = map.get0(&language) else {
-        panic!(rt; "the row is there");
-    };
-    let count = Cell::new(0);
-    let _ = row.get1(&CountingKey::new(script, &count));
-    count.get()
-}
-
-// A look-up of a pair compares at most as often as 21 and the row's length have digits.
-fn pairs_are_found<C0: ZvContainer<StrULE>, C1: ZvContainer<StrULE>, D: ZvContainer<SliceULE<u8>>>(
-    rt: &impl Abort,
-    map: &Map2dOver<'_, StrULE, StrULE, SliceULE<u8>, C0, C1, D>,
-) {
-    for (language, script, scripts) in PAIRS {
-        let most = digits(scripts).saturating_add(5);
-        assert!(rt; is_between(look_up_2d(map, language, script), most));
-    }
-}
-
-// A look-up of a row compares at most five times.
-fn rows_are_found<C0: ZvContainer<StrULE>, C1: ZvContainer<StrULE>, D: ZvContainer<SliceULE<u8>>>(
-    rt: &impl Abort,
-    map: &Map2dOver<'_, StrULE, StrULE, SliceULE<u8>, C0, C1, D>,
-) {
-    for language in LANGUAGES {
-        assert!(rt; is_between(look_up_row(map, language), 5));
-    }
-}
-
-// A look-up in a row compares at most as often as the row's length has digits.
-fn rows_are_searched<
+impl<C0, C1, D> Counts for Map2dOver<'_, StrULE, StrULE, SliceULE<u8>, C0, C1, D>
+where
     C0: ZvContainer<StrULE>,
     C1: ZvContainer<StrULE>,
     D: ZvContainer<SliceULE<u8>>,
->(rt: &impl Abort, map: &Map2dOver<'_, StrULE, StrULE, SliceULE<u8>, C0, C1, D>) {
-    for (language, script, scripts) in PAIRS {
-        assert!(rt; is_between(look_up_in_row(rt, map, language, script), digits(scripts)));
+{
+    fn in_map(&self, language: &str, script: &str) -> usize {
+        let count = Cell::new(0);
+        let language = CountingKey::new(language, &count);
+        let script = CountingKey::new(script, &count);
+        let _ = self.get_2d(&language, &script);
+        count.get()
+    }
+
+    fn of_row(&self, language: &str) -> usize {
+        let count = Cell::new(0);
+        let _ = self.get0(&CountingKey::new(language, &count));
+        count.get()
+    }
+
+    fn in_row(&self, language: &str, script: &str) -> usize {
+        let count = Cell::new(0);
+        if let Some(row) = self.get0(&language) {
+            let _ = row.get1(&CountingKey::new(script, &count));
+        }
+        count.get()
+    }
+}
+
+// A look-up compares at most as often as the numbers of rows, 21, and of the row's pairs have
+// digits.
+fn halve_their_keys<M: Counts>(rt: &impl Abort, map: &M, pairs: &[(&str, &str, usize)]) {
+    for (language, script, scripts) in pairs {
+        let most = digits(*scripts);
+        assert!(rt; is_between(map.in_map(language, script), most.saturating_add(5)));
+        assert!(rt; is_between(map.of_row(language), 5));
+        assert!(rt; is_between(map.in_row(language, script), most));
     }
 }
 
 #[test]
-fn pairs_of_locales_are_found(rt: HostRuntime) -> Result<(), Fail> {
+fn look_ups_halve_their_keys(rt: HostRuntime) -> Result<(), Fail> {
     let map = Locales::parse_parts(KEYS0, JOINER, KEYS1, VALUES)?;
     assert!(rt; map.rows() == 21);
-    pairs_are_found(&rt, &map);
-    Ok(())
-}
-
-#[test]
-fn rows_of_locales_are_found(rt: HostRuntime) -> Result<(), Fail> {
-    let map = Locales::parse_parts(KEYS0, JOINER, KEYS1, VALUES)?;
-    rows_are_found(&rt, &map);
-    rows_are_searched(&rt, &map);
+    halve_their_keys(&rt, &map, &PAIRS);
     Ok(())
 }
