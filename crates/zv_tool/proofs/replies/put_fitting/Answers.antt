@@ -13,5 +13,5 @@ put_at-requires c =
     let v = c.of_bytes-value.result.bytes.now in
     let same : v ≡ c.args.value.now = search rules in
     let fits : fits_texts m c.args.key0.now c.args.key1.now v ≡ true = rw same c.requires.fits in
-    let taken = IsTaken-from (fits_alike m c.args.key0.now c.args.key1.now v c.in_order.ensures ∙ fits) in
+    let taken = IsTaken-from (fits_alike m c.args.key0.now c.args.key1.now v c.in_order.ensures.ascending ∙ fits) in
     search rules
