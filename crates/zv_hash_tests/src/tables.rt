@@ -7,260 +7,168 @@ use std::process::Abort;
 use std::test::Fail;
 use zv_fixed::ZeroVec;
 use zv_hash::HashError;
-use zv_hashmap::{HashMapOver, HashPartsError};
-use zv_map::{MutableZeroVecLike, ZeroMapIter, ZeroMapKV, ZeroMapKeys, ZeroMapValues, ZvContainer};
+use zv_hashmap::{HashPartsError, ZeroHashMap};
+use zv_owned::VarZeroVec16;
 use zv_ule::StrULE;
 
-type Of<'a, K> = <K as ZeroMapKV<'a>>::Container;
-
-// The bytes of the displacements, the keys and the values.
-type Parts<'a> = (&'a [u8], &'a [u8], &'a [u8]);
-
-// What keys have, if anything.
-type Texts<'a> = &'a [(u32, Option<&'a str>)];
-
-// A table of texts, over any containers.
-trait TextTable {
-    // The text of a key, and whether the key is said to be there.
-    fn text_of(&self, key: u32) -> (Option<&str>, bool);
-
-    // Whether each key leads to its slot.
-    fn is_sound(&self) -> bool;
-
-    // The bytes of its vectors.
-    fn bytes(&self) -> Parts<'_>;
-
-    // How many pairs there are, and whether there is none.
-    fn count(&self) -> (usize, bool);
-}
-
-impl<C, D> TextTable for HashMapOver<'_, u32, StrULE, C, D>
-where
-    C: ZvContainer<u32>,
-    D: ZvContainer<StrULE>,
-{
-    fn text_of(&self, key: u32) -> (Option<&str>, bool) {
-        let text = self.get(&key).map(|text| text.as_str());
-        (text, self.contains_key(&key))
-    }
-
-    fn is_sound(&self) -> bool {
-        self.verify()
-    }
-
-    fn bytes(&self) -> Parts<'_> {
-        let displacements = self.displacements().as_bytes();
-        (displacements, self.keys().bytes(), self.values().bytes())
-    }
-
-    fn count(&self) -> (usize, bool) {
-        (self.len(), self.is_empty())
-    }
-}
-
-// The keys have these texts, and each key leads to its slot or not.
-fn has<T: TextTable>(rt: &impl Abort, table: &T, texts: Texts<'_>, sound: bool) {
-    for (key, text) in texts {
-        assert!(rt; table.text_of(*key) == (*text, text.is_some()));
-    }
-    assert!(rt; table.is_sound() == sound);
-}
-
-// The table has these parts.
-fn has_parts<T: TextTable>(rt: &impl Abort, table: &T, parts: Parts<'_>) {
-    assert!(rt; table.bytes() == parts);
-    assert!(rt; table.count() == (parts.0.len() / 8, parts.0.is_empty()));
-}
-
-// ---- tables of pairs
+type Table<'a> = ZeroHashMap<'a, u32, StrULE>;
 
 // The table of pairs.
-fn table<'a, C, D>(
-    alloc: Global,
-    pairs: &[(u32, &str)],
-) -> Result<HashMapOver<'a, u32, StrULE, C, D>, HashError>
-where
-    C: MutableZeroVecLike<'a, u32> + Drop,
-    D: MutableZeroVecLike<'a, StrULE> + Drop,
+fn table(alloc: Global, pairs: &[(u32, &str)]) -> Result<Table<'static>, HashError>
     requires { All (λ p. length p.1.now < 2 ^ 64) pairs.now }
 {
-    HashMapOver::try_from_pairs(alloc, pairs)
+    Table::try_from_pairs(alloc, pairs)
 }
 
-// The table of pairs has these parts, and the keys these texts.
-fn is_built<'a, C, D>(
-    rt: &impl Abort,
-    alloc: Global,
-    pairs: &[(u32, &str)],
-    parts: Parts<'_>,
-    texts: Texts<'_>,
-) -> Result<(), Fail>
-where
-    C: MutableZeroVecLike<'a, u32> + Drop,
-    D: MutableZeroVecLike<'a, StrULE> + Drop,
-    requires { All (λ p. length p.1.now < 2 ^ 64) pairs.now }
-{
-    let table = table::<C, D>(alloc, pairs)?;
-    has_parts(rt, &table, parts);
-    has(rt, &table, texts, true);
-    Ok(())
+// What a key has is this text, or nothing.
+fn has(rt: &impl Abort, table: &Table<'_>, key: u32, wanted: Option<&str>) {
+    let found = table.get(&key);
+    assert!(rt; table.contains_key(&key) == wanted.is_some());
+    match (found, wanted) {
+        (Some(found), Some(wanted)) => assert!(rt; found.as_str() == wanted),
+        (None, None) => {}
+        _ => panic!(rt; "the key has something else"),
+    }
 }
 
-// The displacements (0, 0), (0, 1), (0, 1), the keys 1, 2, 0, and the values b, c, a.
+// The bytes of the three vectors are these.
+fn has_bytes(rt: &impl Abort, table: &Table<'_>, displacements: &[u8], keys: &[u8], values: &[u8]) {
+    assert!(rt; *table.displacements().as_bytes() == *displacements);
+    assert!(rt; *table.keys().bytes() == *keys);
+    assert!(rt; *table.values().bytes() == *values);
+    assert!(rt; table.len() == displacements.len() / 8);
+    assert!(rt; table.is_empty() == displacements.is_empty());
+}
+
+// The displacements (0, 0), (0, 1), (0, 1).
 const DISPLACEMENTS: &[u8] = b"\0\0\0\0\0\0\0\0\0\0\0\0\x01\0\0\0\0\0\0\0\x01\0\0\0";
 
+// The keys 1, 2, 0.
 const KEYS: &[u8] = b"\x01\0\0\0\x02\0\0\0\0\0\0\0";
 
+// The values b, c, a.
 const VALUES: &[u8] = b"\x03\0\x01\0\x02\0bca";
 
 #[test]
 fn three_pairs(rt: HostRuntime) -> Result<(), Fail> {
-    is_built::<Of<'_, u32>, Of<'_, StrULE>>(
-        &rt,
-        rt.alloc(),
-        &[(0, "a"), (1, "b"), (2, "c")],
-        (DISPLACEMENTS, KEYS, VALUES),
-        &[(0, Some("a")), (1, Some("b")), (2, Some("c")), (3, None)],
-    )
+    let table = table(rt.alloc(), &[(0, "a"), (1, "b"), (2, "c")])?;
+    has_bytes(&rt, &table, DISPLACEMENTS, KEYS, VALUES);
+    has(&rt, &table, 0, Some("a"));
+    has(&rt, &table, 1, Some("b"));
+    has(&rt, &table, 2, Some("c"));
+    has(&rt, &table, 3, None);
+    assert!(rt; table.verify());
+    Ok(())
 }
 
 #[test]
 fn one_pair(rt: HostRuntime) -> Result<(), Fail> {
-    is_built::<Of<'_, u32>, Of<'_, StrULE>>(
+    let table = table(rt.alloc(), &[(5, "a")])?;
+    has_bytes(
         &rt,
-        rt.alloc(),
-        &[(5, "a")],
-        (b"\0\0\0\0\x01\0\0\0", b"\x05\0\0\0", b"\x01\0a"),
-        &[(5, Some("a")), (6, None)],
-    )
+        &table,
+        b"\0\0\0\0\x01\0\0\0",
+        b"\x05\0\0\0",
+        b"\x01\0a",
+    );
+    has(&rt, &table, 5, Some("a"));
+    has(&rt, &table, 6, None);
+    assert!(rt; table.verify());
+    Ok(())
 }
 
 #[test]
 fn no_pair(rt: HostRuntime) -> Result<(), Fail> {
-    let parts: Parts<'_> = (b"", b"", b"");
-    is_built::<Of<'_, u32>, Of<'_, StrULE>>(&rt, rt.alloc(), &[], parts, &[(0, None)])
-}
-
-// Of the pairs, the second of these repeats the key of the first.
-fn repeats(rt: &impl Abort, alloc: Global, pairs: &[(u32, &str)], first: usize, second: usize)
-    requires { All (λ p. length p.1.now < 2 ^ 64) pairs.now }
-{
-    let refused = table::<Of<'_, u32>, Of<'_, StrULE>>(alloc, pairs).err();
-    assert!(rt; refused == Some(HashError::Repeated { first, second }));
+    let table = table(rt.alloc(), &[])?;
+    has_bytes(&rt, &table, b"", b"", b"");
+    has(&rt, &table, 0, None);
+    assert!(rt; table.verify());
+    Ok(())
 }
 
 #[test]
 fn a_repeated_key_is_refused(rt: HostRuntime) {
-    repeats(&rt, rt.alloc(), &[(1, "a"), (2, "b"), (1, "c")], 0, 2);
-    let pairs = [(4, "a"), (2, "b"), (1, "c"), (2, "d"), (4, "e")];
-    repeats(&rt, rt.alloc(), &pairs, 1, 3);
-}
-
-// ---- slots
-
-// The pairs stand in this order.
-fn are_pairs(rt: &impl Abort, pairs: ZeroMapIter<'_, u32, StrULE>, wanted: &[(u32, &str)]) {
-    for ((key, value), pair) in pairs.zip(wanted.iter()) {
-        assert!(rt; (key.value(), value.as_str()) == *pair);
-    }
-}
-
-fn are_keys(rt: &impl Abort, keys: ZeroMapKeys<'_, u32>, wanted: &[(u32, &str)]) {
-    for (key, pair) in keys.zip(wanted.iter()) {
-        assert!(rt; key.value() == pair.0);
-    }
-}
-
-fn are_values(rt: &impl Abort, values: ZeroMapValues<'_, StrULE>, wanted: &[(u32, &str)]) {
-    for (value, pair) in values.zip(wanted.iter()) {
-        assert!(rt; value.as_str() == pair.1);
-    }
-}
-
-// The pairs, the keys and the values stand in this order.
-fn stand<C, D>(rt: &impl Abort, table: &HashMapOver<'_, u32, StrULE, C, D>, wanted: &[(u32, &str)])
-where
-    C: ZvContainer<u32>,
-    D: ZvContainer<StrULE>,
-{
-    are_pairs(rt, table.iter(), wanted);
-    are_keys(rt, table.iter_keys(), wanted);
-    are_values(rt, table.iter_values(), wanted);
+    let refused = table(rt.alloc(), &[(1, "a"), (2, "b"), (1, "c")]).err();
+    let repeated = HashError::Repeated {
+        first: 0,
+        second: 2,
+    };
+    assert!(rt; refused == Some(repeated));
+    let refused = table(
+        rt.alloc(),
+        &[(4, "a"), (2, "b"), (1, "c"), (2, "d"), (4, "e")],
+    )
+    .err();
+    let repeated = HashError::Repeated {
+        first: 1,
+        second: 3,
+    };
+    assert!(rt; refused == Some(repeated));
 }
 
 #[test]
 fn pairs_stand_in_their_slots(rt: HostRuntime) -> Result<(), Fail> {
-    let pairs = [(0, "a"), (1, "b"), (2, "c")];
-    let table = table::<Of<'_, u32>, Of<'_, StrULE>>(rt.alloc(), &pairs)?;
-    stand(&rt, &table, &[(1, "b"), (2, "c"), (0, "a")]);
+    let table = table(rt.alloc(), &[(0, "a"), (1, "b"), (2, "c")])?;
+    for ((key, value), wanted) in table.iter().zip([(1, "b"), (2, "c"), (0, "a")]) {
+        assert!(rt; (key.value(), value.as_str()) == wanted);
+    }
+    for (key, wanted) in table.iter_keys().zip([1, 2, 0]) {
+        assert!(rt; key.value() == wanted);
+    }
+    for (value, wanted) in table.iter_values().zip(["b", "c", "a"]) {
+        assert!(rt; value.as_str() == wanted);
+    }
     Ok(())
 }
-
-// ---- parts
 
 // The table of three vectors that borrow these bytes, or why there is none.
-fn from_parts<'a, C, D>(
-    parts: Parts<'a>,
-) -> Result<Result<HashMapOver<'a, u32, StrULE, C, D>, HashPartsError>, Fail>
-where
-    C: MutableZeroVecLike<'a, u32> + Drop,
-    D: MutableZeroVecLike<'a, StrULE> + Drop,
-{
-    let displacements = ZeroVec::parse_bytes(parts.0)?;
-    Ok(HashMapOver::from_parts(
-        displacements,
-        C::zvl_parse(parts.1)?,
-        D::zvl_parse(parts.2)?,
-    ))
-}
-
-// In the table of these parts the keys have these texts, and each key leads to its slot or not.
-fn have<'a, C, D>(
-    rt: &impl Abort,
-    parts: Parts<'a>,
-    texts: Texts<'_>,
-    sound: bool,
-) -> Result<(), Fail>
-where
-    C: MutableZeroVecLike<'a, u32> + Drop,
-    D: MutableZeroVecLike<'a, StrULE> + Drop,
-{
-    let table = from_parts::<C, D>(parts)??;
-    has(rt, &table, texts, sound);
-    Ok(())
-}
-
-// The parts are of no table, for this reason.
-fn are_refused(rt: &impl Abort, parts: Parts<'_>, fault: HashPartsError) -> Result<(), Fail> {
-    let found = from_parts::<Of<'_, u32>, Of<'_, StrULE>>(parts)?;
-    assert!(rt; found.err() == Some(fault));
-    Ok(())
+fn parts<'a>(
+    displacements: &'a [u8],
+    keys: &'a [u8],
+    values: &'a [u8],
+) -> Result<Result<Table<'a>, HashPartsError>, Fail> {
+    let displacements = ZeroVec::parse_bytes(displacements)?;
+    let keys = ZeroVec::parse_bytes(keys)?;
+    let values = VarZeroVec16::parse_bytes(values)?;
+    Ok(Table::from_parts(displacements, keys, values))
 }
 
 #[test]
 fn parts_are_taken_as_they_are(rt: HostRuntime) -> Result<(), Fail> {
-    let texts = [(0, Some("a")), (3, None)];
-    have::<Of<'_, u32>, Of<'_, StrULE>>(&rt, (DISPLACEMENTS, KEYS, VALUES), &texts, true)
+    let table = parts(DISPLACEMENTS, KEYS, VALUES)??;
+    has(&rt, &table, 0, Some("a"));
+    has(&rt, &table, 3, None);
+    assert!(rt; table.verify());
+    Ok(())
 }
 
 #[test]
 fn displacements_of_zeros_lead_nowhere(rt: HostRuntime) -> Result<(), Fail> {
-    let texts = [(0, None), (1, None), (2, None)];
-    have::<Of<'_, u32>, Of<'_, StrULE>>(&rt, (&[0; 24], KEYS, VALUES), &texts, false)
+    let table = parts(&[0; 24], KEYS, VALUES)??;
+    has(&rt, &table, 0, None);
+    has(&rt, &table, 1, None);
+    has(&rt, &table, 2, None);
+    assert!(rt; !table.verify());
+    Ok(())
 }
 
 #[test]
 fn keys_in_wrong_slots_are_not_found(rt: HostRuntime) -> Result<(), Fail> {
-    let keys = b"\x02\0\0\0\x01\0\0\0\0\0\0\0";
-    let texts = [(0, Some("a")), (1, None), (2, None)];
-    have::<Of<'_, u32>, Of<'_, StrULE>>(&rt, (DISPLACEMENTS, keys, VALUES), &texts, false)
+    let table = parts(DISPLACEMENTS, b"\x02\0\0\0\x01\0\0\0\0\0\0\0", VALUES)??;
+    has(&rt, &table, 0, Some("a"));
+    has(&rt, &table, 1, None);
+    has(&rt, &table, 2, None);
+    assert!(rt; !table.verify());
+    Ok(())
 }
 
 #[test]
 fn wrong_counts_are_refused(rt: HostRuntime) -> Result<(), Fail> {
-    let two = &DISPLACEMENTS[..16];
-    are_refused(&rt, (two, KEYS, VALUES), HashPartsError::DisplacementCount)?;
-    are_refused(&rt, (two, KEYS, b"\x01\0a"), HashPartsError::KeyValueCount)
+    let refused = parts(&DISPLACEMENTS[..16], KEYS, VALUES)?.err();
+    assert!(rt; refused == Some(HashPartsError::DisplacementCount));
+    let refused = parts(&DISPLACEMENTS[..16], KEYS, b"\x01\0a")?.err();
+    assert!(rt; refused == Some(HashPartsError::KeyValueCount));
+    Ok(())
 }
 
 #[test]
