@@ -1,12 +1,8 @@
-//! Tests of the crates of lists, vectors, containers, maps, digests and hashes at concrete kinds.
+//! Tests of the crates of lists, vectors, containers, digests and hashes at concrete kinds.
 #![tactic(auto)]
 
 #[cfg(test)]
-mod casts;
-#[cfg(test)]
 mod containers;
-#[cfg(test)]
-mod counted;
 #[cfg(test)]
 mod digests;
 #[cfg(test)]
@@ -18,19 +14,9 @@ mod hashes;
 #[cfg(test)]
 mod lists;
 #[cfg(test)]
-mod look_ups;
-#[cfg(test)]
-mod many;
-#[cfg(test)]
-mod maps;
-#[cfg(test)]
 mod nested;
 #[cfg(test)]
-mod one_level;
-#[cfg(test)]
 mod permutation;
-#[cfg(test)]
-mod reads;
 #[cfg(test)]
 mod splices;
 #[cfg(test)]
