@@ -1,6 +1,4 @@
 // Lists as containers, by the bounds through which maps know them.
-ghost use Rattle.std.specs.Prelude.{IsTrue};
-
 use std::alloc::Global;
 use std::cmp::Ordering;
 use std::process::Abort;
@@ -34,7 +32,7 @@ fn finds_numbers_by<C: ZeroVecSearchBy<u16>>(rt: &impl Abort, list: &C) {
 }
 
 // A container of these bytes borrows them, and the view that it gives makes it again.
-fn is_borrowed<'a, T: ZvKind, C: MutableZeroVecLike<'a, T>>(
+fn is_borrowed<'a, T: ZvKind, C: MutableZeroVecLike<'a, T> + Drop>(
     rt: &impl Abort,
     list: &C,
     bytes: &[u8],
@@ -83,38 +81,38 @@ fn shows_numbers(rt: &impl Abort, view: KvSlice<'_, u16>) {
         panic!(rt; "there are four elements");
     };
     assert!(rt; element.value() == 5);
-    let order = <KvSlice<'_, u16> as ZeroVecSearch<u16>>::t_cmp_get(&4, &element);
-    assert!(rt; order == Ordering::Less);
+    assert!(rt;
+        <KvSlice<'_, u16> as ZeroVecSearch<u16>>::t_cmp_get(&4, &element) == Ordering::Less
+    );
     assert!(rt; view.get(4).is_none());
 }
 
 // A cleared container has no elements.
-fn is_cleared<T: ZvKind, C: ZvContainer<T>>(rt: &impl Abort, list: &mut C) {
+fn is_cleared<T: ZvKind, C: ZvContainer<T>>(list: &mut C) -> bool {
     list.zvl_clear();
-    assert!(rt; list.zvl_is_empty());
+    list.zvl_is_empty()
 }
 
-// The numbers 1, 3 and 5 are searched and changed.
-fn keeps_numbers<'a, C: MutableZeroVecLike<'a, u16, OwnedType = u16>>(
-    rt: &impl Abort,
-    alloc: Global,
-    bytes: &'a [u8],
-) -> Result<(), Fail> {
-    let mut list = C::zvl_parse(bytes)?;
-    finds_numbers(rt, &list);
-    finds_numbers_by(rt, &list);
-    is_borrowed::<u16, C>(rt, &list, bytes);
-    replaces_a_number(rt, alloc, &mut list);
-    changes_numbers(rt, alloc, &mut list);
-    shows_numbers(rt, list.zvl_as_borrowed());
-    is_cleared::<u16, C>(rt, &mut list);
-    assert!(rt; list.zvl_is_owned());
+#[test]
+fn numbers_are_searched(rt: HostRuntime) -> Result<(), Fail> {
+    let bytes = [1, 0, 3, 0, 5, 0];
+    let list = <Of<'_, u16> as MutableZeroVecLike<'_, u16>>::zvl_parse(&bytes)?;
+    finds_numbers(&rt, &list);
+    finds_numbers_by(&rt, &list);
+    is_borrowed::<u16, Of<'_, u16>>(&rt, &list, &bytes);
     Ok(())
 }
 
 #[test]
-fn numbers_are_searched_and_changed(rt: HostRuntime) -> Result<(), Fail> {
-    keeps_numbers::<Of<'_, u16>>(&rt, rt.alloc(), &[1, 0, 3, 0, 5, 0])
+fn numbers_are_changed(rt: HostRuntime) -> Result<(), Fail> {
+    let bytes = [1, 0, 3, 0, 5, 0];
+    let mut list = <Of<'_, u16> as MutableZeroVecLike<'_, u16>>::zvl_parse(&bytes)?;
+    replaces_a_number(&rt, rt.alloc(), &mut list);
+    changes_numbers(&rt, rt.alloc(), &mut list);
+    shows_numbers(&rt, list.zvl_as_borrowed());
+    assert!(rt; is_cleared::<u16, Of<'_, u16>>(&mut list));
+    assert!(rt; list.is_owned());
+    Ok(())
 }
 
 // The empty list becomes "a", "b" and "ccc".
@@ -148,61 +146,26 @@ fn changes_texts<'a, C: MutableZeroVecLike<'a, StrULE, OwnedType = VarBox<StrULE
     Ok(())
 }
 
-// Which lengths the container takes as one element more.
-fn takes<T: ZvKind, C: ZvContainer<T>>(rt: &impl Abort, list: &C, inserts: &[(usize, bool)]) {
-    for (len, taken) in inserts {
-        assert!(rt; list.zvl_takes_insert(*len) == *taken);
-    }
-}
-
-// Texts are added, searched and changed.
-fn keeps_texts<'a, C: MutableZeroVecLike<'a, StrULE, OwnedType = VarBox<StrULE>>>(
-    rt: &impl Abort,
-    alloc: Global,
-) -> Result<(), Fail> {
-    let mut list = C::zvl_new();
-    adds_texts(rt, alloc, &mut list);
-    finds_texts(rt, &list);
-    changes_texts(rt, alloc, &mut list)?;
-    takes::<StrULE, C>(
-        rt,
-        &list,
-        &[(65_535 - 9 - 2, true), (65_535 - 9 - 1, false)],
-    );
-    Ok(())
-}
-
-#[test]
-fn texts_are_searched_and_changed(rt: HostRuntime) -> Result<(), Fail> {
-    keeps_texts::<Of<'_, StrULE>>(&rt, rt.alloc())
-}
-
-// ---- room
-
 // The empty list has no bytes of its own, and then has them, with room.
 fn makes_room<'a, T: ZvKind, C: MutableZeroVecLike<'a, T>>(
     rt: &impl Abort,
     alloc: Global,
-) -> Result<C, Fail>
-    requires { IsTrue T.usable }
-{
-    let mut list = C::zvl_with_capacity(alloc, 0)?;
+    list: &mut C,
+) -> Result<(), Fail> {
     assert!(rt; !list.zvl_is_owned());
     list.zvl_make_owned(alloc)?;
     assert!(rt; list.zvl_is_owned());
     list.zvl_reserve(alloc, 2)?;
     list.zvl_reserve_bytes(alloc, 16)?;
     assert!(rt; list.zvl_is_empty());
-    Ok(list)
+    Ok(())
 }
 
-// Numbers are put in room, the second in place of the first.
-fn puts_numbers<'a, C: MutableZeroVecLike<'a, u16>>(
-    rt: &impl Abort,
-    alloc: Global,
-) -> Result<(), Fail> {
-    let mut list = makes_room::<u16, C>(rt, alloc)?;
-    assert!(rt; list.zvl_is_empty());
+#[test]
+fn numbers_are_put_in_room(rt: HostRuntime) -> Result<(), Fail> {
+    let alloc = rt.alloc();
+    let mut list = <Of<'_, u16> as MutableZeroVecLike<'_, u16>>::zvl_with_capacity(alloc, 0)?;
+    makes_room::<u16, Of<'_, u16>>(&rt, alloc, &mut list)?;
     list.zvl_reserve_bytes(alloc, 2)?;
     assert!(rt; list.zvl_put_reserved(0, false, &7) == Ok(()));
     list.zvl_reserve_bytes(alloc, 2)?;
@@ -213,16 +176,10 @@ fn puts_numbers<'a, C: MutableZeroVecLike<'a, u16>>(
 }
 
 #[test]
-fn numbers_are_put_in_room(rt: HostRuntime) -> Result<(), Fail> {
-    puts_numbers::<Of<'_, u16>>(&rt, rt.alloc())
-}
-
-// A text is put in room, and discarded.
-fn puts_texts<'a, C: MutableZeroVecLike<'a, StrULE>>(
-    rt: &impl Abort,
-    alloc: Global,
-) -> Result<(), Fail> {
-    let mut list = makes_room::<StrULE, C>(rt, alloc)?;
+fn texts_are_put_in_room(rt: HostRuntime) -> Result<(), Fail> {
+    let alloc = rt.alloc();
+    let mut list = <Of<'_, StrULE> as MutableZeroVecLike<'_, StrULE>>::zvl_with_capacity(alloc, 0)?;
+    makes_room::<StrULE, Of<'_, StrULE>>(&rt, alloc, &mut list)?;
     list.zvl_reserve_bytes(alloc, 4)?;
     assert!(rt; list.zvl_put_reserved(0, false, &"ab") == Ok(()));
     assert!(rt; list.zvl_bytes() == [1, 0, 97, 98].as_slice());
@@ -233,24 +190,32 @@ fn puts_texts<'a, C: MutableZeroVecLike<'a, StrULE>>(
     Ok(())
 }
 
-#[test]
-fn texts_are_put_in_room(rt: HostRuntime) -> Result<(), Fail> {
-    puts_texts::<Of<'_, StrULE>>(&rt, rt.alloc())
+// Which lengths the container takes as one element more.
+fn takes<T: ZvKind, C: ZvContainer<T>>(rt: &impl Abort, list: &C, inserts: &[(usize, bool)]) {
+    for (len, taken) in inserts {
+        assert!(rt; list.zvl_takes_insert(*len) == *taken);
+    }
 }
 
-// ---- the size rule
-
 // Which lengths the container takes in place of its first element.
-fn gives_way<'a, C: MutableZeroVecLike<'a, StrULE>>(
-    rt: &impl Abort,
-    bytes: &'a [u8],
-    replaces: &[(usize, bool)],
-) -> Result<(), Fail> {
-    let list = C::zvl_parse(bytes)?;
+fn gives_way<T: ZvKind, C: ZvContainer<T>>(rt: &impl Abort, list: &C, replaces: &[(usize, bool)]) {
     for (len, taken) in replaces {
         assert!(rt; !list.zvl_is_empty());
         assert!(rt; list.zvl_takes_replace(0, *len) == *taken);
     }
+}
+
+#[test]
+fn texts_are_searched_and_changed(rt: HostRuntime) -> Result<(), Fail> {
+    let mut list = <Of<'_, StrULE> as MutableZeroVecLike<'_, StrULE>>::zvl_new();
+    adds_texts(&rt, rt.alloc(), &mut list);
+    finds_texts(&rt, &list);
+    changes_texts(&rt, rt.alloc(), &mut list)?;
+    takes::<StrULE, Of<'_, StrULE>>(
+        &rt,
+        &list,
+        &[(65_535 - 9 - 2, true), (65_535 - 9 - 1, false)],
+    );
     Ok(())
 }
 
@@ -271,7 +236,9 @@ fn only_gives_way(
     replaces: &[(usize, bool)],
 ) -> Result<(), Fail> {
     let bytes = one_text(alloc, letters)?;
-    gives_way::<Of<'_, StrULE>>(rt, &bytes, replaces)
+    let list = <Of<'_, StrULE> as MutableZeroVecLike<'_, StrULE>>::zvl_parse(&bytes)?;
+    gives_way::<StrULE, Of<'_, StrULE>>(rt, &list, replaces);
+    Ok(())
 }
 
 #[test]
@@ -287,29 +254,23 @@ fn an_only_text_gives_way(rt: HostRuntime) -> Result<(), Fail> {
     only_gives_way(&rt, alloc, 65_534, &[(65_534, true), (65_535, false)])
 }
 
-// A list of one text, which is emptied, has no bytes of its own, and takes these lengths.
-fn is_emptied<'a, C: MutableZeroVecLike<'a, StrULE>>(
-    rt: &impl Abort,
-    bytes: &'a [u8],
-    inserts: &[(usize, bool)],
-) -> Result<(), Fail> {
-    let mut list = C::zvl_parse(bytes)?;
-    is_borrowed::<StrULE, C>(rt, &list, bytes);
-    is_cleared::<StrULE, C>(rt, &mut list);
-    assert!(rt; !list.zvl_is_owned());
-    takes::<StrULE, C>(rt, &list, inserts);
-    Ok(())
-}
-
 #[test]
 fn an_emptied_list_borrows_no_bytes(rt: HostRuntime) -> Result<(), Fail> {
-    let inserts = [
-        (65_533, true),
-        (65_534, true),
-        (65_535, false),
-        (65_536, false),
-    ];
-    is_emptied::<Of<'_, StrULE>>(&rt, &[1, 0, 97], &inserts)
+    let mut list = <Of<'_, StrULE> as MutableZeroVecLike<'_, StrULE>>::zvl_parse(&[1, 0, 97])?;
+    is_borrowed::<StrULE, Of<'_, StrULE>>(&rt, &list, &[1, 0, 97]);
+    assert!(rt; is_cleared::<StrULE, Of<'_, StrULE>>(&mut list));
+    assert!(rt; !list.is_owned());
+    takes::<StrULE, Of<'_, StrULE>>(
+        &rt,
+        &list,
+        &[
+            (65_533, true),
+            (65_534, true),
+            (65_535, false),
+            (65_536, false),
+        ],
+    );
+    Ok(())
 }
 
 #[test]

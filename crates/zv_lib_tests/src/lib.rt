@@ -1,4 +1,4 @@
-//! Tests of the crates of lists, vectors, containers, digests and hashes at concrete kinds.
+//! Tests of changes of lists, vectors, containers, digests and hashes at concrete kinds.
 #![tactic(auto)]
 
 #[cfg(test)]
@@ -6,15 +6,7 @@ mod containers;
 #[cfg(test)]
 mod digests;
 #[cfg(test)]
-mod fixed;
-#[cfg(test)]
-mod formats;
-#[cfg(test)]
 mod hashes;
-#[cfg(test)]
-mod lists;
-#[cfg(test)]
-mod nested;
 #[cfg(test)]
 mod permutation;
 #[cfg(test)]

@@ -1,0 +1,11 @@
+//! Tests of lists of either form at concrete kinds.
+#![tactic(auto)]
+
+#[cfg(test)]
+mod fixed;
+#[cfg(test)]
+mod formats;
+#[cfg(test)]
+mod lists;
+#[cfg(test)]
+mod nested;
