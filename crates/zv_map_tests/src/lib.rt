@@ -2,13 +2,13 @@
 #![tactic(auto)]
 
 #[cfg(test)]
+mod appends;
+#[cfg(test)]
 mod casts;
 #[cfg(test)]
 mod counted;
 #[cfg(test)]
 mod look_ups;
-#[cfg(test)]
-mod many;
 #[cfg(test)]
 mod maps;
 #[cfg(test)]
