@@ -2,8 +2,6 @@
 #![tactic(auto)]
 
 #[cfg(test)]
-mod appends;
-#[cfg(test)]
 mod casts;
 #[cfg(test)]
 mod counted;

@@ -8,18 +8,20 @@ use std::marker::Brand;
 use std::process::Abort;
 use std::sync::ledger::{Blank, Ledger};
 use std::test::Fail;
-use zv_map::{MapError, MutableZeroVecLike, ZvContainer};
-use zv_map1::{MapOver, VecsError, ZeroMap, ZeroMapBorrowed};
-use zv_ule::{Steps, StrULE, VarBox};
+use zv_map::{MapError, MutableZeroVecLike, ZeroMapKV};
+use zv_map1::{MapOver, VecsError, ZeroMapBorrowed};
+use zv_ule::{Steps, StrULE, VarBox, VarRef};
 
-type Named<'a> = ZeroMap<'a, u32, StrULE>;
+type Of<'a, K> = <K as ZeroMapKV<'a>>::Container;
+
+// A map from numbers to names.
+type Names<C, D> = MapOver<u32, StrULE, C, D>;
 
 // The map has these pairs and no others.
 fn has_pairs(rt: &impl Abort, map: ZeroMapBorrowed<'_, u32, StrULE>, pairs: &[(u32, &str)]) {
     assert!(rt; map.len() == pairs.len());
-    for ((key, value), (wanted_key, wanted_value)) in map.iter().zip(pairs.iter()) {
-        assert!(rt; key.value() == *wanted_key);
-        assert!(rt; value.as_str() == *wanted_value);
+    for ((key, value), pair) in map.iter().zip(pairs.iter()) {
+        assert!(rt; (key.value(), value.as_str()) == *pair);
     }
 }
 
@@ -31,11 +33,15 @@ fn was(old: Option<VarBox<StrULE>>, name: &str) -> bool {
 }
 
 // The map of the pair (1, "dos") is changed.
-fn changes_names<
-    'a,
-    C: MutableZeroVecLike<'a, u32> + Drop,
-    D: MutableZeroVecLike<'a, StrULE, OwnedType = VarBox<StrULE>> + Drop,
->(rt: &impl Abort, alloc: Global, map: &mut MapOver<u32, StrULE, C, D>) -> Result<(), Fail> {
+fn changes_names<'a, C, D>(
+    rt: &impl Abort,
+    alloc: Global,
+    map: &mut Names<C, D>,
+) -> Result<(), Fail>
+where
+    C: MutableZeroVecLike<'a, u32>,
+    D: MutableZeroVecLike<'a, StrULE, OwnedType = VarBox<StrULE>>,
+{
     assert!(rt; was(map.insert(alloc, &1, &"x")?, "dos"));
     assert!(rt; map.insert_var_v(alloc, &2, &"y")?.is_none());
     assert!(rt; map.try_append(alloc, &2, &"z")? == Some((&2, &"z")));
@@ -46,11 +52,11 @@ fn changes_names<
 }
 
 // Room and copies leave the pairs as they are.
-fn copies_names<
-    'a,
-    C: MutableZeroVecLike<'a, u32> + Drop,
-    D: MutableZeroVecLike<'a, StrULE> + Drop,
->(rt: &impl Abort, alloc: Global, map: &mut MapOver<u32, StrULE, C, D>) -> Result<(), Fail> {
+fn copies_names<'a, C, D>(rt: &impl Abort, alloc: Global, map: &mut Names<C, D>) -> Result<(), Fail>
+where
+    C: MutableZeroVecLike<'a, u32>,
+    D: MutableZeroVecLike<'a, StrULE>,
+{
     map.reserve(alloc, 3)?;
     let copy = map.clone(alloc)?;
     has_pairs(rt, copy.as_borrowed(), &[(2, "y"), (7, "z")]);
@@ -60,52 +66,71 @@ fn copies_names<
     Ok(())
 }
 
+// The last of two names of 1 counts, and then the map is changed.
+fn come_and_go<'a, C, D>(rt: &impl Abort, alloc: Global) -> Result<(), Fail>
+where
+    C: MutableZeroVecLike<'a, u32>,
+    D: MutableZeroVecLike<'a, StrULE, OwnedType = VarBox<StrULE>>,
+{
+    let mut map = Names::<C, D>::try_from_pairs(alloc, &[(1, "uno"), (1, "dos")])?;
+    has_pairs(rt, map.as_borrowed(), &[(1, "dos")]);
+    changes_names(rt, alloc, &mut map)?;
+    copies_names(rt, alloc, &mut map)
+}
+
 #[test]
 fn names_come_and_go(rt: HostRuntime) -> Result<(), Fail> {
-    let alloc = rt.alloc();
-    let mut map = Named::try_from_pairs(alloc, &[(1, "uno"), (1, "dos")])?;
-    has_pairs(&rt, map.as_borrowed(), &[(1, "dos")]);
-    changes_names(&rt, alloc, &mut map)?;
-    copies_names(&rt, alloc, &mut map)
+    come_and_go::<Of<'_, u32>, Of<'_, StrULE>>(&rt, rt.alloc())
+}
+
+// The text of an element that was found.
+fn text(found: Option<VarRef<'_, StrULE>>) -> Option<&str> {
+    found.map(|element| element.as_str())
 }
 
 // Asks for what is there, and for what isn't.
 fn asks_names(rt: &impl Abort, map: ZeroMapBorrowed<'_, u32, StrULE>) {
-    assert!(rt; map.get(&2).is_some_and(|value| value.as_str() == "y"));
-    assert!(rt; map.get(&3).is_none());
-    assert!(rt; map.contains_key(&7));
-    assert!(rt; !map.contains_key(&8));
-    assert!(rt;
-        map.get_by(|key| key.cmp(&[2, 0, 0, 0].as_slice()))
-            .is_some_and(|value| value.as_str() == "y")
-    );
-    assert!(rt;
-        map.iter_keys()
-            .next_back()
-            .is_some_and(|key| key.value() == 7)
-    );
-    assert!(rt;
-        map.iter_values()
-            .next_back()
-            .is_some_and(|value| value.as_str() == "z")
-    );
+    for (key, name) in [(2, Some("y")), (3, None), (7, Some("z")), (8, None)] {
+        assert!(rt; text(map.get(&key)) == name);
+        assert!(rt; map.contains_key(&key) == name.is_some());
+    }
+}
+
+// Finds names by other ways.
+fn finds_names(rt: &impl Abort, map: ZeroMapBorrowed<'_, u32, StrULE>) {
+    let by_bytes = map.get_by(|key| key.cmp(&[2, 0, 0, 0].as_slice()));
+    assert!(rt; text(by_bytes) == Some("y"));
+    let last_key = map.iter_keys().next_back();
+    assert!(rt; last_key.map(|key| key.value()) == Some(7));
+    assert!(rt; text(map.iter_values().next_back()) == Some("z"));
+}
+
+// The names are read.
+fn are_read<'a, C, D>(rt: &impl Abort, alloc: Global) -> Result<(), Fail>
+where
+    C: MutableZeroVecLike<'a, u32>,
+    D: MutableZeroVecLike<'a, StrULE>,
+{
+    let map = Names::<C, D>::try_from_pairs(alloc, &[(7, "z"), (2, "x"), (2, "y")])?;
+    asks_names(rt, map.as_borrowed());
+    finds_names(rt, map.as_borrowed());
+    has_pairs(rt, map.as_borrowed(), &[(2, "y"), (7, "z")]);
+    Ok(())
 }
 
 #[test]
 fn names_are_read(rt: HostRuntime) -> Result<(), Fail> {
-    let map = Named::try_from_pairs(rt.alloc(), &[(7, "z"), (2, "x"), (2, "y")])?;
-    asks_names(&rt, map.as_borrowed());
-    has_pairs(&rt, map.as_borrowed(), &[(2, "y"), (7, "z")]);
-    Ok(())
+    are_read::<Of<'_, u32>, Of<'_, StrULE>>(&rt, rt.alloc())
 }
 
 // ---- a view of bytes
 
 // The map of these bytes, which are borrowed, or why they are none.
-fn parse<'a, C: MutableZeroVecLike<'a, u32> + Drop, D: MutableZeroVecLike<'a, StrULE> + Drop>(
-    keys: &'a [u8],
-    values: &'a [u8],
-) -> Result<Result<MapOver<u32, StrULE, C, D>, VecsError>, Fail> {
+fn parse<'a, C, D>(keys: &'a [u8], values: &'a [u8]) -> Result<Result<Names<C, D>, VecsError>, Fail>
+where
+    C: MutableZeroVecLike<'a, u32>,
+    D: MutableZeroVecLike<'a, StrULE>,
+{
     Ok(MapOver::from_vecs(C::zvl_parse(keys)?, D::zvl_parse(values)?))
 }
 
@@ -116,13 +141,12 @@ const NAMES: &[u8] = b"\x02\0\x03\0unodos";
 
 #[test]
 fn bytes_are_viewed(rt: HostRuntime) -> Result<(), Fail> {
-    let Ok(map) = parse(KEYS, NAMES)? else {
+    let Ok(map) = parse::<Of<'_, u32>, Of<'_, StrULE>>(KEYS, NAMES)? else {
         panic!(rt; "the keys ascend");
     };
-    let map: Named<'_> = map;
     let view = map.as_borrowed();
     has_pairs(&rt, view, &[(1, "uno"), (2, "dos")]);
-    let again = Named::from_borrowed(view);
+    let again = Names::<Of<'_, u32>, Of<'_, StrULE>>::from_borrowed(view);
     assert!(rt; again.is_some_and(|again| again.same(view)));
     assert!(rt; !view.same(ZeroMapBorrowed::new()));
     Ok(())
@@ -130,7 +154,7 @@ fn bytes_are_viewed(rt: HostRuntime) -> Result<(), Fail> {
 
 // The bytes are no map, for this reason.
 fn are_refused(rt: &impl Abort, keys: &[u8], values: &[u8], fault: VecsError) -> Result<(), Fail> {
-    let found: Result<Named<'_>, VecsError> = parse(keys, values)?;
+    let found = parse::<Of<'_, u32>, Of<'_, StrULE>>(keys, values)?;
     assert!(rt; found.err() == Some(fault));
     Ok(())
 }
@@ -146,11 +170,12 @@ fn vectors_that_are_no_map(rt: HostRuntime) -> Result<(), Fail> {
 
 // A key that is there is not measured: beside a value of 65,534 bytes no other pair is taken, and
 // the value is replaced by another as long.
-fn replaces_only<
-    'a,
-    C: MutableZeroVecLike<'a, u32> + Drop,
-    D: MutableZeroVecLike<'a, StrULE> + Drop,
->(rt: &impl Abort, alloc: Global, map: &mut MapOver<u32, StrULE, C, D>, long: &str) {
+fn replaces_only<'a, C, D>(rt: &impl Abort, alloc: Global, long: &str)
+where
+    C: MutableZeroVecLike<'a, u32>,
+    D: MutableZeroVecLike<'a, StrULE>,
+{
+    let mut map = Names::<C, D>::new();
     assert!(rt; map.insert(alloc, &1, &long).is_ok_and(|old| old.is_none()));
     assert!(rt; map.insert(alloc, &2, &"").err() == Some(MapError::TooLarge));
     assert!(rt; map.try_append(alloc, &2, &"").err() == Some(MapError::TooLarge));
@@ -162,15 +187,14 @@ fn replaces_only<
 fn a_key_that_is_there_is_not_measured(rt: HostRuntime) -> Result<(), Fail> {
     let alloc = rt.alloc();
     let long = "x".repeat(alloc, 65_534)?;
-    let mut map = Named::new();
-    replaces_only(&rt, alloc, &mut map, long.as_str());
+    replaces_only::<Of<'_, u32>, Of<'_, StrULE>>(&rt, alloc, long.as_str());
     Ok(())
 }
 
 // ---- comparisons
 
 // A map from letters to numbers.
-type Letters<'a> = ZeroMap<'a, StrULE, u16>;
+type Letters<C, D> = MapOver<StrULE, u16, C, D>;
 
 const LETTERS: [&str; 21] = [
     "a", "b", "c", "d", "e", "f", "g", "h", "i", "j", "k", "l", "m", "n", "o", "p", "q", "r", "s",
@@ -178,15 +202,16 @@ const LETTERS: [&str; 21] = [
 ];
 
 // The map of each letter to 7.
-fn appends_letters<
-    'a,
-    C: MutableZeroVecLike<'a, StrULE> + Drop,
-    D: MutableZeroVecLike<'a, u16> + Drop,
->(alloc: Global, map: &mut MapOver<StrULE, u16, C, D>) -> Result<(), Fail> {
+fn letters<'a, C, D>(alloc: Global) -> Result<Letters<C, D>, Fail>
+where
+    C: MutableZeroVecLike<'a, StrULE>,
+    D: MutableZeroVecLike<'a, u16>,
+{
+    let mut map = Letters::<C, D>::new();
     for letter in &LETTERS {
         map.try_append(alloc, letter, &7)?;
     }
-    Ok(())
+    Ok(map)
 }
 
 // Looks a key up with its steps counted, and says whether it is there.
@@ -206,15 +231,8 @@ fn counts_from<L: Ledger>(
 // How many comparisons a look-up of the text makes, and a counted one.
 fn comparisons(map: ZeroMapBorrowed<'_, StrULE, u16>, text: &str) -> (usize, usize) {
     let (plain, counted) = (Cell::new(0), Cell::new(0));
-    let key = CountingKey {
-        text,
-        count: &plain,
-    };
-    let _ = map.get(&key);
-    let key = CountingKey {
-        text,
-        count: &counted,
-    };
+    let _ = map.get(&CountingKey::new(text, &plain));
+    let key = CountingKey::new(text, &counted);
     let _ = counts_from::<Brand>(map, &key, Blank::new(1));
     (plain.get(), counted.get())
 }
@@ -232,77 +250,7 @@ fn compares_up_to_five_times(rt: &impl Abort, map: ZeroMapBorrowed<'_, StrULE, u
 
 #[test]
 fn a_look_up_halves_the_keys(rt: HostRuntime) -> Result<(), Fail> {
-    let mut map = Letters::new();
-    appends_letters(rt.alloc(), &mut map)?;
+    let map = letters::<Of<'_, StrULE>, Of<'_, u16>>(rt.alloc())?;
     compares_up_to_five_times(&rt, map.as_borrowed());
-    Ok(())
-}
-
-// ---- many pairs
-
-type Numbers<'a> = ZeroMap<'a, u16, u32>;
-
-const MANY: u16 = 10_000;
-
-// The map of each number to its own, by appending.
-fn appends<'a, C: MutableZeroVecLike<'a, u16> + Drop, D: MutableZeroVecLike<'a, u32> + Drop>(
-    rt: &impl Abort,
-    alloc: Global,
-    map: &mut MapOver<u16, u32, C, D>,
-) -> Result<(), Fail> {
-    for number in 0..MANY {
-        let value = u32::from(number);
-        let back = map.try_append(alloc, &number, &value)?;
-        assert!(rt; back.is_none());
-    }
-    Ok(())
-}
-
-// The same map, from its last pair to its first.
-fn inserts_backwards<
-    'a,
-    C: MutableZeroVecLike<'a, u16> + Drop,
-    D: MutableZeroVecLike<'a, u32> + Drop,
->(rt: &impl Abort, alloc: Global, map: &mut MapOver<u16, u32, C, D>) -> Result<(), Fail> {
-    for number in (0..MANY).rev() {
-        let old = map.insert(alloc, &number, &u32::from(number))?;
-        assert!(rt; old.is_none());
-    }
-    Ok(())
-}
-
-// Pairs of which the later half has the values.
-fn repeats(alloc: Global) -> Result<Vec<(u16, u32)>, Fail> {
-    let mut pairs = Vec::new(alloc);
-    for number in 0..MANY {
-        pairs.push((number, 77_777))?;
-    }
-    for number in (0..MANY).rev() {
-        pairs.push((number, u32::from(number)))?;
-    }
-    Ok(pairs)
-}
-
-// Each number has its own, read into hand.
-fn has_numbers(rt: &impl Abort, map: ZeroMapBorrowed<'_, u16, u32>) {
-    assert!(rt; map.len() == 10_000);
-    for (key, value) in map.iter_copied() {
-        assert!(rt; u32::from(key) == value);
-    }
-    assert!(rt; map.get_copied(&9_999) == Some(9_999));
-    assert!(rt; map.get_copied(&10_000).is_none());
-}
-
-#[test]
-fn a_large_map_is_one_however_it_is_built(rt: HostRuntime) -> Result<(), Fail> {
-    let alloc = rt.alloc();
-    let mut appended = Numbers::with_capacity(alloc, 10_000)?;
-    appends(&rt, alloc, &mut appended)?;
-    let mut inserted = Numbers::new();
-    inserts_backwards(&rt, alloc, &mut inserted)?;
-    let given = Numbers::try_from_pairs(alloc, &repeats(alloc)?)?;
-    assert!(rt; appended.same(inserted.as_borrowed()));
-    assert!(rt; appended.same(given.as_borrowed()));
-    has_numbers(&rt, given.as_borrowed());
     Ok(())
 }
