@@ -1,23 +1,27 @@
-use Rattle.std.proofs.Common.{◌≡◌, ℕ, ◌+◌, ◌≤◌, List, [], ◌∷◌, length, drop, min, arith, length-drop, sym, ◌∙◌}
-use Rattle.std.specs.Cmp.{nat_cmp_is}
+use Rattle.std.proofs.Common.{◌≡◌, ◌∙◌, ◌+◌, ◌*◌, drop, ap, sym, arith}
 use Rattle.std.specs.Cmp.Lexicographic.{slice_cmp}
-use Rattle.std.specs.Ordering.{nat_cmp}
-use Rattle.std.specs.declared.cmp.Ordering.TheVariants.{Less, Equal, Greater}
+use Rattle.std.specs.Ordering.{nat_cmp, ordering_then}
+use Rattle.zv_ule.proofs.Words.{then_kept, words_at}
 use Rattle.zv_ule.proofs.compare.compare_bytes.Goals as goal
 
--- where one is read to its end, the lengths decide
-ends : (x y : List ℕ) (m n i : ℕ) → length x + i ≡ m → length y + i ≡ n → min m n ≤ i → slice_cmp nat_cmp x y ≡ nat_cmp m n
-ends [] [] m n i a b h = nat_cmp_is m n Equal (omega arith)
-ends [] (y ∷ ys) m n i a b h = nat_cmp_is m n Less (omega arith)
-ends (x ∷ xs) [] m n i a b h = nat_cmp_is m n Greater (omega arith)
-ends (x ∷ xs) (y ∷ ys) m n i a b h = absurd (omega arith)
-
-pub returns : goal.returns
-returns c =
-    let a : List ℕ = c.args.a.now in
-    let b : List ℕ = c.args.b.now in
+pub returns-in_default : goal.returns-in_default
+returns-in_default c =
+    let k = c.loop-word.word * 4 in
+    let a = c.args.a.now in
+    let b = c.args.b.now in
     record {
-      order = c.cmp.ensures ∙
-          (sym (ends (drop c.loop-i.i a) (drop c.loop-i.i b) (length a) (length b) c.loop-i.i (omega (arith, length-drop c.loop-i.i a))
-          (omega (arith, length-drop c.loop-i.i b)) (omega arith)) ∙ c.loop-i.invariant);
+      order = then_kept c.cmp.result (slice_cmp nat_cmp (drop (k + 4) a) (drop (k + 4) b)) c.in_default.not-Equal
+          ∙ words_at k a b c.cmp.result _ _ c.cmp.ensures (omega arith) (omega arith) c.type_inv.a c.type_inv.b c.first_word.ensures
+          c.first_word-in-loop-word.ensures ∙ c.loop-word.invariant;
     }
+
+pub loop-word-preserved : goal.loop-word-preserved
+loop-word-preserved c =
+    let k = c.loop-word.word * 4 in
+    let a = c.args.a.now in
+    let b = c.args.b.now in
+    let next : (c.loop-word.word + 1) * 4 ≡ k + 4 = omega arith in
+    (λ i. slice_cmp nat_cmp (drop (next i) a) (drop (next i) b))
+    ∙ ap (λ o. ordering_then o (slice_cmp nat_cmp (drop (k + 4) a) (drop (k + 4) b))) (sym c.in-Equal.is)
+    ∙ words_at k a b c.cmp.result _ _ c.cmp.ensures (omega arith) (omega arith) c.type_inv.a c.type_inv.b c.first_word.ensures
+    c.first_word-in-loop-word.ensures ∙ c.loop-word.invariant
