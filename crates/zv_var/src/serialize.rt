@@ -11,12 +11,12 @@ ghost use Rattle.zv_var.specs.Laws.{AreValid};
 ghost use Rattle.zv_var.specs.Serialize.{lengthless, lengthless_len, serialized, serialized_len};
 
 use std::alloc::Global;
-use zv_ule::{EncodeAsVarULE, NoMemory, VarULE, VarZeroVecFormat, write_count, write_start};
+use zv_ule::{EncodeAsVarULE, NoMemory, VarZeroVecFormat, ZvKind, write_count, write_start};
 
 /// How many bytes the starts and the spellings of values have, as a list without its count. `None`
 /// comes exactly where that reaches `F::MAX` or a value has no spelling.
 pub fn compute_serializable_len_without_length<
-    T: VarULE,
+    T: ZvKind,
     A: EncodeAsVarULE<T>,
     F: VarZeroVecFormat,
 >(elements: &[A]) -> Option<u32>
@@ -32,7 +32,7 @@ pub fn compute_serializable_len_without_length<
 
 /// How many bytes the spellings of values have, if each value has one. More than a usize holds is
 /// the most that it holds.
-fn spellings_len<T: VarULE, A: EncodeAsVarULE<T>>(elements: &[A]) -> Option<usize>
+fn spellings_len<T: ZvKind, A: EncodeAsVarULE<T>>(elements: &[A]) -> Option<usize>
     requires { IsTrue T.usable }
     ensures fit { IfSome result (λ _. list_all A.fits elements.now ≡ true) }
     ensures len { IfSome result (λ n.
@@ -52,7 +52,7 @@ fn spellings_len<T: VarULE, A: EncodeAsVarULE<T>>(elements: &[A]) -> Option<usiz
 
 /// How many bytes values have as a list in a format. `None` comes exactly where
 /// [`compute_serializable_len_without_length`] gives it, and past 2^32 - 1.
-pub fn compute_serializable_len<T: VarULE, A: EncodeAsVarULE<T>, F: VarZeroVecFormat>(
+pub fn compute_serializable_len<T: ZvKind, A: EncodeAsVarULE<T>, F: VarZeroVecFormat>(
     elements: &[A],
 ) -> Option<u32>
     requires { IsTrue T.usable }
@@ -66,7 +66,7 @@ pub fn compute_serializable_len<T: VarULE, A: EncodeAsVarULE<T>, F: VarZeroVecFo
 }
 
 /// Writes the spellings of values, one after another, over the whole of `out`.
-fn write_spellings<T: VarULE, A: EncodeAsVarULE<T>>(elements: &[A], out: &mut [u8])
+fn write_spellings<T: ZvKind, A: EncodeAsVarULE<T>>(elements: &[A], out: &mut [u8])
     requires usable { IsTrue T.usable }
     requires fit { list_all A.fits elements.now ≡ true }
     requires whole { length out.old ≡ length (flat_map A.spelling elements.now) }
@@ -82,7 +82,7 @@ fn write_spellings<T: VarULE, A: EncodeAsVarULE<T>>(elements: &[A], out: &mut [u
 }
 
 /// Writes where the spellings of values start, but the first, over the whole of `out`.
-fn write_starts<T: VarULE, A: EncodeAsVarULE<T>, F: VarZeroVecFormat>(
+fn write_starts<T: ZvKind, A: EncodeAsVarULE<T>, F: VarZeroVecFormat>(
     elements: &[A],
     out: &mut [u8],
 )
@@ -104,7 +104,7 @@ fn write_starts<T: VarULE, A: EncodeAsVarULE<T>, F: VarZeroVecFormat>(
 
 /// Writes values as a list without its count, over the whole of `output`.
 pub fn write_serializable_bytes_without_length<
-    T: VarULE,
+    T: ZvKind,
     A: EncodeAsVarULE<T>,
     F: VarZeroVecFormat,
 >(elements: &[A], output: &mut [u8])
@@ -120,7 +120,7 @@ pub fn write_serializable_bytes_without_length<
 }
 
 /// Writes values as a list over the whole of `output`. The list of no values is a count of 0.
-pub fn write_serializable_bytes<T: VarULE, A: EncodeAsVarULE<T>, F: VarZeroVecFormat>(
+pub fn write_serializable_bytes<T: ZvKind, A: EncodeAsVarULE<T>, F: VarZeroVecFormat>(
     elements: &[A],
     output: &mut [u8],
 )
@@ -138,7 +138,7 @@ pub fn write_serializable_bytes<T: VarULE, A: EncodeAsVarULE<T>, F: VarZeroVecFo
 
 /// The bytes of values as a list, of which there is one at least. `None` comes exactly where
 /// [`compute_serializable_len`] gives it.
-pub fn get_serializable_bytes_non_empty<T: VarULE, A: EncodeAsVarULE<T>, F: VarZeroVecFormat>(
+pub fn get_serializable_bytes_non_empty<T: ZvKind, A: EncodeAsVarULE<T>, F: VarZeroVecFormat>(
     alloc: Global,
     elements: &[A],
 ) -> Result<Option<Vec<u8>>, NoMemory>

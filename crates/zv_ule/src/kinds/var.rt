@@ -41,7 +41,7 @@ impl<U: ULE> VarULE for SliceULE<U> {}
 
 /// A value that is written as an element of a kind: a text in hand, a slice, an element that is
 /// viewed. Its *spelling* is the bytes that are written.
-pub trait EncodeAsVarULE<T: VarULE> {
+pub trait EncodeAsVarULE<T: ZvKind> {
     /// Whether the value has a spelling, of fewer than 2^64 bytes.
     ghost fits: { Self → Bool };
 
@@ -70,7 +70,7 @@ pub trait EncodeAsVarULE<T: VarULE> {
         ensures spells { T.fault (spelling self.now) ≡ None };
 }
 
-impl<T: VarULE> EncodeAsVarULE<T> for VarRef<'_, T> {
+impl<T: ZvKind> EncodeAsVarULE<T> for VarRef<'_, T> {
     ghost fits = { λ _. true };
 
     ghost spelling = { element_of };
@@ -91,7 +91,7 @@ impl<T: VarULE> EncodeAsVarULE<T> for VarRef<'_, T> {
     }
 }
 
-impl<T: VarULE, E: EncodeAsVarULE<T>> EncodeAsVarULE<T> for &E {
+impl<T: ZvKind, E: EncodeAsVarULE<T>> EncodeAsVarULE<T> for &E {
     ghost fits = { λ v. E.fits v.now };
 
     ghost spelling = { λ v. E.spelling v.now };
