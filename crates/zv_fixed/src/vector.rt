@@ -15,7 +15,7 @@ use crate::cow_bytes::CowBytes;
 use crate::slice::ZeroSlice;
 pub use each::EachError;
 use std::marker::{Model, PhantomData};
-use zv_ule::{AsULE, UleError};
+use zv_ule::{AsULE, UleError, UsableKind};
 
 /// A list of values of fixed width in plain bytes, as `ZeroSlice`, that may be changed. It borrows
 /// its bytes until the first change, which copies them, and from then on owns them and changes
@@ -44,6 +44,16 @@ impl<'a, T: AsULE> Model for ZeroVec<'a, T> {
 
     ghost invariant = { λ v. IsTrue (is_width T.ULE.width)
         × (chunks_fault T.ULE.TY T.ULE.width T.ULE.chunk_fault (bytes_in v.cow) ≡ None) };
+}
+
+/// The list of no values, as [`ZeroVec::new`].
+impl<T: AsULE + UsableKind> Default for ZeroVec<'_, T> {
+    ghost is_default = { λ v. (v.values ≡ []) × (v.bytes ≡ []) × (v.owned ≡ false) };
+
+    #[inline]
+    fn default() -> Self {
+        ZeroVec::new()
+    }
 }
 
 impl<'a, T: AsULE> ZeroVec<'a, T> {

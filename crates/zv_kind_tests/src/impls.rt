@@ -405,7 +405,7 @@ fn arguments_for_texts_are_written(rt: HostRuntime) -> Result<(), Fail> {
     let alloc = rt.alloc();
     let text = String::from_str(alloc, "b")?;
     let written: VarBox<StrULE> = encode_varule_to_box(alloc, &"d")?;
-    let mut list = <Of<'_, StrULE> as MutableZeroVecLike<'_, StrULE>>::zvl_new();
+    let mut list = <Of<'_, StrULE> as ZvContainer<StrULE>>::zvl_new();
     takes(&rt, alloc, &mut list, &"a");
     takes(&rt, alloc, &mut list, &text);
     takes(&rt, alloc, &mut list, &VarRef::of_str("c"));

@@ -207,7 +207,7 @@ fn gives_way<T: ZvKind, C: ZvContainer<T>>(rt: &impl Abort, list: &C, replaces: 
 
 #[test]
 fn texts_are_searched_and_changed(rt: HostRuntime) -> Result<(), Fail> {
-    let mut list = <Of<'_, StrULE> as MutableZeroVecLike<'_, StrULE>>::zvl_new();
+    let mut list = <Of<'_, StrULE> as ZvContainer<StrULE>>::zvl_new();
     adds_texts(&rt, rt.alloc(), &mut list);
     finds_texts(&rt, &list);
     changes_texts(&rt, rt.alloc(), &mut list)?;
@@ -276,7 +276,7 @@ fn an_emptied_list_borrows_no_bytes(rt: HostRuntime) -> Result<(), Fail> {
 #[test]
 fn data_are_pushed(rt: HostRuntime) {
     let bytes = [1, 2];
-    let mut data = <Of<'_, SliceULE<u8>> as MutableZeroVecLike<'_, SliceULE<u8>>>::zvl_new();
+    let mut data = <Of<'_, SliceULE<u8>> as ZvContainer<SliceULE<u8>>>::zvl_new();
     assert!(rt; data.zvl_push(rt.alloc(), &bytes.as_slice()) == Ok(()));
     assert!(rt; data.zvl_as_borrowed().bytes() == [1, 0, 1, 2].as_slice());
 }

@@ -7,6 +7,7 @@ ghost use Rattle.zv_map.specs.Keys.{nth};
 ghost use Rattle.zv_map.specs.declared.view.Form.TheVariants.{Fixed};
 
 use crate::error::{MapError, TooLarge};
+use crate::permute::pushed_at;
 use crate::vecs::{MutableZeroVecLike, ZeroVecLike, ZvContainer};
 use crate::view::{Form, KvSlice, RawView};
 use std::alloc::Global;
@@ -93,6 +94,11 @@ impl<'a, T: AsULE> ZvContainer<T> for ZeroVec<'a, T> {
     ghost parse_list = { chunks_of T.ULE.width };
 
     ghost spelling = { concat };
+
+    #[inline]
+    fn zvl_new() -> Self {
+        ZeroVec::new()
+    }
 
     #[inline]
     fn zvl_is_owned(&self) -> bool {
@@ -207,11 +213,6 @@ impl<'a, T: AsULE> ZvContainer<T> for ZeroVec<'a, T> {
 
 impl<'a, T: AsULE> MutableZeroVecLike<'a, T> for ZeroVec<'a, T> {
     #[inline]
-    fn zvl_new() -> Self {
-        ZeroVec::new()
-    }
-
-    #[inline]
     fn zvl_with_capacity(alloc: Global, capacity: usize) -> Result<Self, NoMemory> {
         if capacity == 0 {
             return Ok(ZeroVec::new());
@@ -250,6 +251,11 @@ impl<'a, T: AsULE> MutableZeroVecLike<'a, T> for ZeroVec<'a, T> {
     #[inline]
     fn zvl_clone(&self, alloc: Global) -> Result<Self, NoMemory> {
         self.clone(alloc)
+    }
+
+    #[inline]
+    fn zvl_elements_at(&self, alloc: Global, places: &[usize]) -> Result<Self, MapError> {
+        pushed_at(self, alloc, places)
     }
 
     #[inline]

@@ -1,16 +1,19 @@
 // The elements of a container in another order.
 ghost use Rattle.std.specs.Prelude.{◌≡◌, ◌<◌, ◌≤◌, [], length, true, IfErr, IfOk, IsPermutation};
-ghost use Rattle.std.specs.Prelude.{OnErr, OnOk};
+ghost use Rattle.std.specs.Prelude.{OnErr, OnOk, map};
 ghost use Rattle.std.specs.List.{All, range_with_len};
+ghost use Rattle.zv_ule.specs.Views.{element_of};
 ghost use Rattle.zv_owned.specs.Size.{takes_pushes};
 ghost use Rattle.zv_map.specs.Permuted.{permuted};
 ghost use Rattle.zv_map.specs.Refusals.{TooLargeUnless};
+ghost use Rattle.zv_map.specs.Views.{list_of};
 ghost use Rattle.zv_map.specs.declared.error.MapError.TheVariants.{Memory};
 
 use crate::error::MapError;
 use crate::vecs::MutableZeroVecLike;
-use std::alloc::Global;
-use zv_ule::ZvKind;
+use crate::view::KvSlice;
+use std::alloc::{AllocError, Global};
+use zv_ule::{NoMemory, VarRef, ZvKind};
 
 /// The permutation of a container's elements. Each container has it.
 pub trait ZeroVecPermute<'a, T: ZvKind>: MutableZeroVecLike<'a, T> {
@@ -31,8 +34,25 @@ pub trait ZeroVecPermute<'a, T: ZvKind>: MutableZeroVecLike<'a, T> {
             (permuted (Self.list self.old) permutation.now)) result };
 }
 
-/// The elements at the places, one after another, in a container of their own.
-fn elements_at<'a, T: ZvKind, C: MutableZeroVecLike<'a, T>>(
+/// The views at the places, one after another.
+pub(crate) fn views_at<'b, T: ZvKind>(
+    elements: KvSlice<'b, T>,
+    alloc: Global,
+    places: &[usize],
+) -> Result<Vec<VarRef<'b, T>>, NoMemory>
+    requires { All (λ i. i < length (list_of elements)) places.now }
+    ensures { IfOk result (λ views. map element_of views.items
+        ≡ permuted (list_of elements.entry) places.now) }
+{
+    let mut views = Vec::with_capacity(alloc, places.len())?;
+    for place in places {
+        views.push(elements.at(*place)).map_err(AllocError::from)?;
+    }
+    Ok(views)
+}
+
+/// The elements at the places, pushed one after another into a container of their own.
+pub(crate) fn pushed_at<'a, T: ZvKind, C: MutableZeroVecLike<'a, T>>(
     list: &C,
     alloc: Global,
     places: &[usize],
@@ -58,7 +78,7 @@ impl<'a, T: ZvKind, C: MutableZeroVecLike<'a, T>> ZeroVecPermute<'a, T> for C {
         if !self.zvl_takes_elements() {
             return Err(MapError::TooLarge);
         }
-        *self = elements_at(self, alloc, permutation)?;
+        *self = self.zvl_elements_at(alloc, permutation)?;
         Ok(())
     }
 }

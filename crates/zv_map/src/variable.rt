@@ -14,11 +14,13 @@ ghost use Rattle.zv_map.specs.declared.view.Form.TheVariants.{Index16 as FormInd
 ghost use Rattle.zv_map.specs.declared.view.Form.TheVariants.{Index32 as FormIndex32};
 
 use crate::error::{MapError, TooLarge};
+use crate::permute::{pushed_at, views_at};
 use crate::search::Indexed;
 use crate::vecs::{MutableZeroVecLike, ZeroVecLike, ZvContainer};
 use crate::view::{Form, KvSlice, RawView};
 use std::alloc::Global;
 use zv_owned::vector::VarZeroVec;
+use zv_owned::{VarZeroVecOwned, VecError};
 use zv_ule::search::IndexedList;
 use zv_ule::{
     Index16, Index32, NoMemory, UleError, VarBox, VarRef, VarZeroVecFormat, ZvArg, ZvKind,
@@ -153,6 +155,11 @@ impl<'a, T: ZvKind, F: MapForm> ZvContainer<T> for VarZeroVec<'a, T, F> {
     ghost spelling = { enc F.W };
 
     #[inline]
+    fn zvl_new() -> Self {
+        VarZeroVec::new()
+    }
+
+    #[inline]
     fn zvl_is_owned(&self) -> bool {
         self.is_owned()
     }
@@ -273,11 +280,6 @@ impl<'a, T: ZvKind, F: MapForm> ZvContainer<T> for VarZeroVec<'a, T, F> {
 
 impl<'a, T: ZvKind, F: MapForm> MutableZeroVecLike<'a, T> for VarZeroVec<'a, T, F> {
     #[inline]
-    fn zvl_new() -> Self {
-        VarZeroVec::new()
-    }
-
-    #[inline]
     fn zvl_with_capacity(alloc: Global, capacity: usize) -> Result<Self, NoMemory> {
         VarZeroVec::with_capacity(alloc, capacity)
     }
@@ -307,6 +309,15 @@ impl<'a, T: ZvKind, F: MapForm> MutableZeroVecLike<'a, T> for VarZeroVec<'a, T, 
     #[inline]
     fn zvl_clone(&self, alloc: Global) -> Result<Self, NoMemory> {
         self.clone(alloc)
+    }
+
+    fn zvl_elements_at(&self, alloc: Global, places: &[usize]) -> Result<Self, MapError> {
+        let elements = views_at(self.zvl_as_borrowed(), alloc, places)?;
+        match VarZeroVecOwned::try_from_elements(alloc, &elements) {
+            Ok(owned) => Ok(VarZeroVec::new_owned(owned)),
+            Err(VecError::TooLarge) => pushed_at(self, alloc, places),
+            Err(VecError::Memory) => Err(MapError::Memory),
+        }
     }
 
     #[inline]

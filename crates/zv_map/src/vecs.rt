@@ -2,8 +2,8 @@
 ghost use Rattle.std.specs.Prelude.{◌≡◌, ℕ, ◌==◌, ◌||◌, ◌+◌, ◌*◌, ◌^◌, ◌<◌, ◌≤◌, List, []};
 ghost use Rattle.std.specs.Prelude.{◌∷◌, ◌++◌};
 ghost use Rattle.std.specs.Prelude.{length, Option, None, is_some, IfSome, Bool, true, false, not};
-ghost use Rattle.std.specs.Prelude.{IsTrue, IfOk, OnOk, OnErr, is_ok, set, IsPermutation};
-ghost use Rattle.std.specs.List.{AllByRecursion, insert, remove, slice_get};
+ghost use Rattle.std.specs.Prelude.{IsTrue, IfErr, IfOk, OnOk, OnErr, is_ok, set, IsPermutation};
+ghost use Rattle.std.specs.List.{All, AllByRecursion, insert, remove, slice_get};
 ghost use Rattle.std.specs.Option.{option_map};
 ghost use Rattle.std.specs.Result.{result_err};
 ghost use Rattle.zv_ule.specs.Bytes.{IsBytes};
@@ -12,9 +12,11 @@ ghost use Rattle.zv_ule.specs.declared.error.UleError.{UleError};
 ghost use Rattle.zv_owned.specs.Size.{takes_pushes};
 ghost use Rattle.zv_map.specs.Forms.{list_in, spells_in};
 ghost use Rattle.zv_map.specs.Keys.{IsElementOf, nth};
+ghost use Rattle.zv_map.specs.Permuted.{permuted};
 ghost use Rattle.zv_map.specs.Refusals.{TooLargeUnless};
 ghost use Rattle.zv_map.specs.Reserved.{HasPlace, HasRoom, IsTaken, put_at, takes_put};
 ghost use Rattle.zv_map.specs.Views.{bytes_of, list_of};
+ghost use Rattle.zv_map.specs.declared.error.MapError.TheVariants.{Memory};
 ghost use Rattle.zv_map.specs.declared.view.Form.{Form};
 
 use crate::error::{MapError, TooLarge};
@@ -106,6 +108,14 @@ pub trait ZvContainer<T: ZvKind>: ZeroVecLike<T> {
 
     /// The bytes that a list is written as: none where it is empty.
     ghost spelling: { List (List ℕ) → List ℕ };
+
+    /// The empty list, borrowed.
+    fn zvl_new() -> Self
+        requires { IsTrue T.usable }
+        ensures list { Self.list result ≡ [] }
+        ensures bytes { Self.bytes result ≡ [] }
+        ensures owned { Self.owned result ≡ false }
+        ensures spare { Self.spare result ≡ 0 };
 
     /// Whether the container owns its bytes.
     fn zvl_is_owned(&self) -> bool
@@ -283,14 +293,6 @@ pub trait ZvContainer<T: ZvKind>: ZeroVecLike<T> {
 /// A container whose list can be changed. Bytes that are borrowed are never written: the first
 /// change makes the container own its bytes. A refused change leaves the container as it was.
 pub trait MutableZeroVecLike<'a, T: ZvKind>: ZvContainer<T> + Drop {
-    /// The empty list, borrowed.
-    fn zvl_new() -> Self
-        requires { IsTrue T.usable }
-        ensures list { Self.list result ≡ [] }
-        ensures bytes { Self.bytes result ≡ [] }
-        ensures owned { Self.owned result ≡ false }
-        ensures spare { Self.spare result ≡ 0 };
-
     /// The empty list, with room for so many elements whose lengths aren't known. It owns its bytes
     /// where that is one element at least.
     fn zvl_with_capacity(alloc: Global, capacity: usize) -> Result<Self, NoMemory>
@@ -334,6 +336,16 @@ pub trait MutableZeroVecLike<'a, T: ZvKind>: ZvContainer<T> + Drop {
         ensures list { IfOk result (λ c. Self.list c ≡ Self.list self.now) }
         ensures bytes { IfOk result (λ c. Self.bytes c ≡ Self.bytes self.now) }
         ensures owned { IfOk result (λ c. Self.owned c ≡ Self.owned self.now) };
+
+    /// The elements at the places, one after another, in a container that owns its bytes. Where
+    /// elements have any length they are written at once, and else pushed one by one.
+    fn zvl_elements_at(&self, alloc: Global, places: &[usize]) -> Result<Self, MapError>
+        requires within { All (λ i. i < length (Self.list self.now)) places.now }
+        requires taken { takes_pushes Self.takes_insert []
+            (permuted (Self.list self.now) places.now) ≡ true }
+        ensures list { IfOk result (λ c. Self.list c ≡ permuted (Self.list self.now) places.now) }
+        ensures owned { IfOk result (λ c. Self.owned c ≡ true) }
+        ensures err { IfErr result (λ e. e ≡ Memory) };
 
     /// Puts an element at a place, before the one that stands there.
     fn zvl_insert<Q: ZvArg<T>>(

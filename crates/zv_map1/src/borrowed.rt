@@ -17,7 +17,7 @@ use zv_map::{
     KvSlice, ZeroMapCopied, ZeroMapCopiedValues, ZeroMapIter, ZeroMapKeys, ZeroMapValues,
     ZeroVecLike, ZeroVecSearchBy,
 };
-use zv_ule::{AsULE, Steps, VarRef, ZvKind, ZvOrd, ZvOrdArg};
+use zv_ule::{AsULE, Steps, UsableKind, VarRef, ZvKind, ZvOrd, ZvOrdArg};
 
 /// A view of a map: of its keys and of its values. It is copied freely, and what it gives lives as
 /// long as the bytes.
@@ -39,6 +39,18 @@ impl<K: ZvOrd, V: ZvKind> Clone for ZeroMapBorrowed<'_, K, V> {
     #[inline]
     fn clone(&self) -> Result<Self, AllocError> {
         Ok(*self)
+    }
+}
+
+/// The map of no pairs.
+impl<K: ZvOrd + UsableKind, V: ZvKind + UsableKind> Default for ZeroMapBorrowed<'_, K, V> {
+    ghost use Rattle.zv_map1.specs.Borrowed.{pairs_of};
+
+    ghost is_default = { λ m. pairs_of m ≡ [] };
+
+    #[inline]
+    fn default() -> Self {
+        ZeroMapBorrowed::new()
     }
 }
 

@@ -14,9 +14,26 @@ use crate::map::MapOver;
 use std::alloc::Global;
 use std::marker::PhantomData;
 use zv_map::{MutableZeroVecLike, ZeroVecSearch, ZvContainer};
-use zv_ule::{NoMemory, ZvKind, ZvOrd};
+use zv_ule::{NoMemory, UsableKind, ZvKind, ZvOrd};
 
 impl<K: ZvOrd, V: ZvKind, C: ZvContainer<K> + Drop, D: ZvContainer<V> + Drop> MapOver<K, V, C, D> {
+    /// The map of no pairs. It takes no memory.
+    pub fn new() -> Self
+        requires keys { IsTrue K.usable }
+        requires values { IsTrue V.usable }
+        ensures pairs { result.pairs ≡ [] }
+        ensures keys { result.keys.bytes ≡ [] }
+        ensures values { result.values.bytes ≡ [] }
+        ensures owned { (result.keys.owned ≡ false) × (result.values.owned ≡ false) }
+        ensures spare { (result.keys.spare ≡ 0) × (result.values.spare ≡ 0) }
+    {
+        MapOver {
+            keys: C::zvl_new(),
+            values: D::zvl_new(),
+            kinds: PhantomData,
+        }
+    }
+
     /// The map of these keys, each with the value at its place.
     ///
     /// # Errors
@@ -44,6 +61,22 @@ impl<K: ZvOrd, V: ZvKind, C: ZvContainer<K> + Drop, D: ZvContainer<V> + Drop> Ma
     }
 }
 
+/// The map of no pairs, as [`MapOver::new`].
+impl<K, V, C, D> Default for MapOver<K, V, C, D>
+where
+    K: ZvOrd + UsableKind,
+    V: ZvKind + UsableKind,
+    C: ZvContainer<K> + Drop,
+    D: ZvContainer<V> + Drop,
+{
+    ghost is_default = { λ m. (m.pairs ≡ []) × (m.keys.owned ≡ false) × (m.values.owned ≡ false) };
+
+    #[inline]
+    fn default() -> Self {
+        MapOver::new()
+    }
+}
+
 impl<K: ZvOrd, V: ZvKind, C: ZvContainer<K>, D: ZvContainer<V>> MapOver<K, V, C, D> {
     /// Takes all pairs out. It takes no memory, and keeps what memory the map has.
     pub fn clear(&mut self)
@@ -64,23 +97,6 @@ impl<
     C: MutableZeroVecLike<'a, K> + Drop,
     D: MutableZeroVecLike<'a, V> + Drop,
 > MapOver<K, V, C, D> {
-    /// The map of no pairs. It takes no memory.
-    pub fn new() -> Self
-        requires keys { IsTrue K.usable }
-        requires values { IsTrue V.usable }
-        ensures pairs { result.pairs ≡ [] }
-        ensures keys { result.keys.bytes ≡ [] }
-        ensures values { result.values.bytes ≡ [] }
-        ensures owned { (result.keys.owned ≡ false) × (result.values.owned ≡ false) }
-        ensures spare { (result.keys.spare ≡ 0) × (result.values.spare ≡ 0) }
-    {
-        MapOver {
-            keys: C::zvl_new(),
-            values: D::zvl_new(),
-            kinds: PhantomData,
-        }
-    }
-
     /// The map of no pairs, with room for so many whose lengths aren't known.
     pub fn with_capacity(alloc: Global, capacity: usize) -> Result<Self, NoMemory>
         requires keys { IsTrue K.usable }

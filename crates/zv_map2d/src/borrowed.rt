@@ -21,7 +21,7 @@ use std::marker::Brand;
 use std::sync::ledger::{Blank, Ledger};
 use zv_fixed::ZeroSlice;
 use zv_map::{KvSlice, ZeroVecLike, ZeroVecSearch};
-use zv_ule::{AsULE, Steps, VarRef, ZvKind, ZvOrd, ZvOrdArg};
+use zv_ule::{AsULE, Steps, UsableKind, VarRef, ZvKind, ZvOrd, ZvOrdArg};
 
 /// A map in two levels that borrows all its bytes, in whatever forms they are. It is copied freely,
 /// lives as long as the bytes, and takes no memory. Each read of a map in two levels is one of
@@ -48,6 +48,21 @@ impl<K0: ZvOrd, K1: ZvOrd, V: ZvKind> Clone for ZeroMap2dBorrowed<'_, K0, K1, V>
     #[inline]
     fn clone(&self) -> Result<Self, AllocError> {
         Ok(*self)
+    }
+}
+
+/// The map of no pairs.
+impl<K0, K1, V> Default for ZeroMap2dBorrowed<'_, K0, K1, V>
+where
+    K0: ZvOrd + UsableKind,
+    K1: ZvOrd + UsableKind,
+    V: ZvKind + UsableKind,
+{
+    ghost is_default = { λ m. rows_in m ≡ [] };
+
+    #[inline]
+    fn default() -> Self {
+        ZeroMap2dBorrowed::new()
     }
 }
 

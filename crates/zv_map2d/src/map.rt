@@ -20,7 +20,7 @@ use std::alloc::Global;
 use std::marker::{Model, PhantomData};
 use zv_fixed::ZeroVec;
 use zv_map::{MutableZeroVecLike, TooLarge, ZeroMapKV, ZvContainer};
-use zv_ule::{NoMemory, ZvArg, ZvKind, ZvOrd, ZvOrdArg};
+use zv_ule::{NoMemory, UsableKind, ZvArg, ZvKind, ZvOrd, ZvOrdArg};
 
 /// A map in two levels, over the containers of its first keys, its second keys and its values.
 ///
@@ -148,6 +148,24 @@ impl<
         ensures keys { AreElements K0.fault K1.fault self.now.rows }
     {
         self.columns.keys_are_valid();
+    }
+}
+
+/// The map of no pairs, as [`Map2dOver::new`].
+impl<'a, K0, K1, V, C0, C1, D> Default for Map2dOver<'a, K0, K1, V, C0, C1, D>
+where
+    K0: ZvOrd + UsableKind,
+    K1: ZvOrd + UsableKind,
+    V: ZvKind + UsableKind,
+    C0: MutableZeroVecLike<'a, K0>,
+    C1: MutableZeroVecLike<'a, K1>,
+    D: MutableZeroVecLike<'a, V>,
+{
+    ghost is_default = { λ m. (m.rows ≡ []) × IsBorrowed m };
+
+    #[inline]
+    fn default() -> Self {
+        Map2dOver::new()
     }
 }
 

@@ -8,6 +8,8 @@ mod counted;
 #[cfg(test)]
 mod look_ups;
 #[cfg(test)]
+mod many;
+#[cfg(test)]
 mod maps;
 #[cfg(test)]
 mod one_level;

@@ -2,13 +2,13 @@
 ghost use Rattle.std.specs.Prelude.{◌≡◌, ◌<◌, ◌^◌, length, Option, None, IsTrue, IfSome, is_some};
 
 use std::marker::PhantomData;
-use zv_ule::{EncodeAsVarULE, VarULE, VarZeroVecFormat, ZvArg};
+use zv_ule::{EncodeAsVarULE, VarZeroVecFormat, ZvArg, ZvKind};
 use zv_var::slice::VarZeroSlice;
 
 /// A value that has a spelling, with the spelling's length: an argument of the kind, whose bytes
 /// are the spelling.
 #[derive(Drop)]
-pub struct Encoded<'e, T: VarULE, A: EncodeAsVarULE<T>> {
+pub struct Encoded<'e, T: ZvKind, A: EncodeAsVarULE<T>> {
     value: &'e A,
     len: usize,
     of: PhantomData<T>,
@@ -17,7 +17,7 @@ pub struct Encoded<'e, T: VarULE, A: EncodeAsVarULE<T>> {
     ghost valid: { T.fault (A.spelling value.now) ≡ None },
 }
 
-impl<'e, T: VarULE, A: EncodeAsVarULE<T>> Encoded<'e, T, A> {
+impl<'e, T: ZvKind, A: EncodeAsVarULE<T>> Encoded<'e, T, A> {
     /// The value as an argument, or `None` where it has no spelling.
     #[inline]
     pub fn new(value: &'e A) -> Option<Self>
@@ -50,7 +50,7 @@ impl<'e, T: VarULE, A: EncodeAsVarULE<T>> Encoded<'e, T, A> {
     }
 }
 
-impl<T: VarULE, A: EncodeAsVarULE<T>> ZvArg<T> for Encoded<'_, T, A> {
+impl<T: ZvKind, A: EncodeAsVarULE<T>> ZvArg<T> for Encoded<'_, T, A> {
     ghost bytes = { λ e. A.spelling e.value.now };
 
     #[inline]

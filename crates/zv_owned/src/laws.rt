@@ -1,6 +1,6 @@
 // What the size rule and the count of steps mean: worked examples, and laws. A call but the last
 // two does nothing, and its contract is what it is for.
-ghost use Rattle.std.specs.Prelude.{◌≡◌, ◌+◌, ◌≤◌, ◌∷◌, [], IfOk, OnOk};
+ghost use Rattle.std.specs.Prelude.{◌≡◌, ◌+◌, ◌≤◌, ◌∷◌, [], true, IfOk, OnOk};
 ghost use Rattle.zv_owned.specs.Examples.{EmptyRefusesMost, EmptyTakesBelowMost, FullTakesNone};
 ghost use Rattle.zv_owned.specs.Examples.{FullTakesSameSize, LongerSecondIsRefused};
 ghost use Rattle.zv_owned.specs.Examples.{NotTakenIsTooLarge, OnlyGivesWay, OnlyStays};
@@ -10,6 +10,7 @@ ghost use Rattle.zv_owned.specs.Examples.{FirstTakesTen, FrontTakesThirtyEight, 
 ghost use Rattle.zv_owned.specs.Examples.{SecondGoesInTwentyTwo, ThreeAreTaken};
 ghost use Rattle.zv_owned.specs.Laws.{AnyOrder, InsertKeeps, RemoveKeeps, ReplaceKeeps};
 ghost use Rattle.zv_owned.specs.Laws.{ShorterIsTaken};
+ghost use Rattle.zv_owned.specs.Owned.{TooLargeUnless};
 
 use crate::error::VecError;
 use crate::owned::{Change, VarZeroVecOwned};
@@ -56,7 +57,8 @@ pub fn size_rule()
     ensures any_order { AnyOrder }
 {}
 
-/// In the list of the texts "a" and "b", "c" takes the place of "b" in one step.
+/// In the list of the texts "a" and "b", "c" takes the place of "b" in one step. Nothing but memory
+/// can be wanting.
 pub fn splice_by_hand<L: Ledger>(
     list: &mut VarZeroVecOwned<StrULE, Index16>,
     steps: &mut Steps<L>,
@@ -64,6 +66,7 @@ pub fn splice_by_hand<L: Ledger>(
     requires { list.old.list ≡ (97 ∷ []) ∷ (98 ∷ []) ∷ [] }
     ensures bytes { OnOk result (list.new.bytes ≡ 2 ∷ 0 ∷ 1 ∷ 0 ∷ 97 ∷ 99 ∷ []) }
     ensures steps { OnOk result (steps.new ≤ steps.old + 1) }
+    ensures taken { TooLargeUnless true result }
 {
     list.splice_counted(1, Change::Replace(&"c"), steps)
 }

@@ -549,12 +549,14 @@ impl<T: ZvKind, F: VarZeroVecFormat> VarZeroVecOwned<T, F> {
         self.reserve_bytes(n)
     }
 
-    /// The list of no elements, with room for `capacity` elements of four bytes each.
+    /// The list of no elements, with room for `capacity` elements of four bytes each. It takes no
+    /// memory where `capacity` is 0.
     pub fn with_capacity(alloc: Global, capacity: usize) -> Result<Self, NoMemory>
         requires { IsTrue T.usable }
         ensures list { IfOk result (λ v. v.list ≡ []) }
         ensures bytes { IfOk result (λ v. v.bytes ≡ []) }
         ensures spare { IfOk result (λ v. capacity * (F.W + 4) ≤ v.spare) }
+        ensures free { capacity ≡ 0 → IsOk result }
     {
         let mut list = VarZeroVecOwned::new(alloc);
         list.reserve(capacity)?;
@@ -591,7 +593,7 @@ impl<T: ZvKind, F: VarZeroVecFormat> VarZeroVecOwned<T, F> {
     }
 }
 
-impl<T: VarULE, F: VarZeroVecFormat> VarZeroVecOwned<T, F> {
+impl<T: ZvKind, F: VarZeroVecFormat> VarZeroVecOwned<T, F> {
     /// The list of values' spellings.
     ///
     /// # Errors

@@ -23,8 +23,8 @@ use crate::size::{growth_of, takes_change, takes_elements, takes_insert, takes_r
 use std::alloc::Global;
 use std::marker::Model;
 use zv_ule::{
-    EncodeAsVarULE, Index16, Index32, NoMemory, UleError, VarBox, VarRef, VarULE, VarZeroVecFormat,
-    ZvArg, ZvKind,
+    EncodeAsVarULE, Index16, Index32, NoMemory, UleError, UsableKind, VarBox, VarRef,
+    VarZeroVecFormat, ZvArg, ZvKind,
 };
 use zv_var::components::VarZeroVecComponents;
 use zv_var::iter::VarZeroSliceIter;
@@ -144,6 +144,18 @@ pub type VarZeroVec16<'a, T> = VarZeroVec<'a, T, Index16>;
 
 /// A list whose count and starts have four bytes each.
 pub type VarZeroVec32<'a, T> = VarZeroVec<'a, T, Index32>;
+
+/// The list of no elements, as [`VarZeroVec::new`].
+impl<T: ZvKind + UsableKind, F: VarZeroVecFormat> Default for VarZeroVec<'_, T, F> {
+    ghost use Rattle.zv_owned.specs.Vectors.{vector_list, vector_owned};
+
+    ghost is_default = { λ v. (vector_list v ≡ []) × (vector_owned v ≡ false) };
+
+    #[inline]
+    fn default() -> Self {
+        VarZeroVec::new()
+    }
+}
 
 impl<'a, T: ZvKind, F: VarZeroVecFormat> VarZeroVec<'a, T, F> {
     ghost use Rattle.std.specs.Borrow.{sem};
@@ -656,7 +668,7 @@ impl<'a, T: ZvKind, F: VarZeroVecFormat> VarZeroVec<'a, T, F> {
     }
 }
 
-impl<T: VarULE, F: VarZeroVecFormat> VarZeroVec<'static, T, F> {
+impl<T: ZvKind, F: VarZeroVecFormat> VarZeroVec<'static, T, F> {
     ghost use Rattle.zv_owned.specs.Vectors.{vector_bytes, vector_list, vector_owned};
 
     /// The list of values' spellings. It owns its bytes, and is borrowed where there is no value.

@@ -1,5 +1,6 @@
 -- Four bytes compare as the number that they are.
-use Rattle.std.proofs.Common.{◌≡◌, ℕ, ◌+◌, ◌-◌, ◌*◌, ◌<◌, ◌≤◌, List, [], ◌∷◌, length, drop, take, take_all, length-drop, drop-drop, get_or-drop, get_or, refl, sym, subst, ap, ◌∙◌, arith, Fits, w8}
+use Rattle.std.proofs.Common.{◌≡◌, ℕ, ◌+◌, ◌-◌, ◌*◌, ◌<◌, ◌≤◌, List, [], ◌∷◌, length, drop, take, take_all, length-drop}
+use Rattle.std.proofs.Common.{drop-drop, get_or-drop, get_or, refl, sym, subst, ap, ◌∙◌, arith, Fits, w8}
 use Rattle.std.specs.Cmp.{nat_cmp_is, ranked}
 use Rattle.std.specs.Cmp.Lexicographic.{slice_cmp}
 use Rattle.std.specs.Int.{from_be_bytes, w32}
@@ -45,7 +46,8 @@ words_first a b la lb fa fb =
     let whole : (xs : List ℕ) → ((at xs 0 * 256 + at xs 1) * 256 + at xs 2) * 256 + at xs 3 ≡ from_be_bytes w32 xs = λ xs. omega arith in
     let two = digit (at a 0) (at b 0) (at a 1) (at b 1) (omega (arith, fa 1)) (omega (arith, fb 1)) in
     let three = digit (at a 0 * 256 + at a 1) (at b 0 * 256 + at b 1) (at a 2) (at b 2) (omega (arith, fa 2)) (omega (arith, fb 2)) in
-    let all = digit ((at a 0 * 256 + at a 1) * 256 + at a 2) ((at b 0 * 256 + at b 1) * 256 + at b 2) (at a 3) (at b 3) (omega (arith, fa 3)) (omega (arith, fb 3)) in
+    let front : List ℕ → ℕ = λ xs. (at xs 0 * 256 + at xs 1) * 256 + at xs 2 in
+    let all = digit (front a) (front b) (at a 3) (at b 3) (omega (arith, fa 3)) (omega (arith, fb 3)) in
     let word : ordering_then (ordering_then (ordering_then (byte 0) (byte 1)) (byte 2)) (byte 3) ≡ nat_cmp (from_be_bytes w32 a) (from_be_bytes w32 b) =
     ap (λ o. ordering_then (ordering_then o (byte 2)) (byte 3)) two ∙ ap (λ o. ordering_then o (byte 3)) three ∙ all
     ∙ (λ i. nat_cmp (whole a i) (whole b i)) in
@@ -54,7 +56,8 @@ words_first a b la lb fa fb =
     ∙ (λ i. slice_cmp nat_cmp (sym (four a la) i) (sym (four b lb) i))
 
 -- the same for the numbers at a place
-pub words_at : (k : ℕ) (a b : List ℕ) (o : Ordering) (m n : ℕ) → o ≡ nat_cmp m n → k + 4 ≤ length a → k + 4 ≤ length b → ((i : ℕ) → Fits w8 (get_or a i 0)) → ((i : ℕ) → Fits w8 (get_or b i 0))
+pub words_at : (k : ℕ) (a b : List ℕ) (o : Ordering) (m n : ℕ) → o ≡ nat_cmp m n → k + 4 ≤ length a → k + 4 ≤ length b
+    → ((i : ℕ) → Fits w8 (get_or a i 0)) → ((i : ℕ) → Fits w8 (get_or b i 0))
     → m ≡ from_be_bytes w32 (take (length a - k) (drop k a)) → n ≡ from_be_bytes w32 (take (length b - k) (drop k b))
     → ordering_then o (slice_cmp nat_cmp (drop (k + 4) a) (drop (k + 4) b)) ≡ slice_cmp nat_cmp (drop k a) (drop k b)
 words_at k a b o m n is_o la lb fa fb is_m is_n =

@@ -1,7 +1,7 @@
 use Rattle.std.proofs.Common.{◌≡◌, true, take, drop}
 use Rattle.zv_owned.specs.Size.{takes_pushes}
 use Rattle.zv_map.specs.Permuted.{permuted}
-use Rattle.zv_map.proofs.permute.elements_at.Given as goal
+use Rattle.zv_map.proofs.permute.pushed_at.Given as goal
 
 abbrev pub invariant-loop-place : goal.invariant-loop-place
 invariant-loop-place g l = record {
