@@ -8,8 +8,8 @@ use Rattle.zv_ule.specs.Kinds.{EqualIsSame}
 use Rattle.zv_ule.specs.declared.error.UleError.{UleError}
 use Rattle.zv_map1.specs.Appends.{appended, is_above}
 use Rattle.zv_map1.specs.Building.{insert_all}
-use Rattle.zv_map1.specs.Views.{Bytes, IsElementOf, IsMap, Order, Pairs, insert_entry, keys_of, look_up}
-use Rattle.zv_map1.specs.Views.{without_key}
+use Rattle.zv_map1.specs.Views.{Bytes, IsElementOf, IsMap, Order, Pairs, insert_entry, keys_of}
+use Rattle.zv_map1.specs.Views.{look_up, without_key}
 
 -- the value that was inserted is found
 abbrev pub InsertIsFound : Type 0

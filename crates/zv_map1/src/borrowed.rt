@@ -25,7 +25,8 @@ pub struct ZeroMapBorrowed<'a, K: ZvOrd, V: ZvKind> {
     keys: KvSlice<'a, K>,
     values: KvSlice<'a, V>,
     pub ghost count: { length (list_of keys) ≡ length (list_of values) },
-    pub ghost ascending: { IsStrictlySortedBy K.cmp (list_of keys) } by { IsStrictlySortedBy-prop _ _ },
+    pub ghost ascending: { IsStrictlySortedBy K.cmp
+        (list_of keys) } by { IsStrictlySortedBy-prop _ _ },
 }
 
 impl<K: ZvOrd, V: ZvKind> Copy for ZeroMapBorrowed<'_, K, V> {}

@@ -110,6 +110,7 @@ impl<'a, K0: ZvOrd, K1: ZvOrd, V: ZvKind> ZeroMap2dBorrowed<'a, K0, K1, V> {
     }
 
     /// Where the row's pairs end among all pairs.
+    #[inline(always)]
     pub(crate) fn row_end(&self, row: usize) -> usize
         requires { row < length (rows_in self.now) }
         ensures { result ≡ before (rows_in self.now) (suc row) }
@@ -118,6 +119,7 @@ impl<'a, K0: ZvOrd, K1: ZvOrd, V: ZvKind> ZeroMap2dBorrowed<'a, K0, K1, V> {
     }
 
     /// Where the row's pairs start among all pairs.
+    #[inline(always)]
     pub(crate) fn row_start(&self, row: usize) -> usize
         requires { row < length (rows_in self.now) }
         ensures { result ≡ before (rows_in self.now) row }
@@ -129,6 +131,7 @@ impl<'a, K0: ZvOrd, K1: ZvOrd, V: ZvKind> ZeroMap2dBorrowed<'a, K0, K1, V> {
     }
 
     /// The place of the first key's row, or where it would go.
+    #[inline(always)]
     pub(crate) fn row_place<Q: ZvOrdArg<K0>, L: Ledger>(
         &self,
         key: &Q,
@@ -148,6 +151,7 @@ impl<'a, K0: ZvOrd, K1: ZvOrd, V: ZvKind> ZeroMap2dBorrowed<'a, K0, K1, V> {
     }
 
     /// The place in the row of the pair with the second key, or where it would go.
+    #[inline(always)]
     pub(crate) fn pair_place<Q: ZvOrdArg<K1>, L: Ledger>(
         &self,
         row: usize,
@@ -197,6 +201,7 @@ impl<'a, K0: ZvOrd, K1: ZvOrd, V: ZvKind> ZeroMap2dBorrowed<'a, K0, K1, V> {
     }
 
     /// The value of a pair of the row.
+    #[inline(always)]
     pub(crate) fn value_at(&self, row: usize, pair: usize) -> Option<VarRef<'a, V>>
         requires row { row < length (rows_in self.now) }
         requires pair { pair < length (row_at (rows_in self.now) row) }
@@ -221,6 +226,7 @@ impl<'a, K0: ZvOrd, K1: ZvOrd, V: ZvKind> ZeroMap2dBorrowed<'a, K0, K1, V> {
     ///
     /// It searches the first keys and then one row's second keys, each by halving, and takes no
     /// memory.
+    #[inline(always)]
     pub(crate) fn get_2d_counted<Q0: ZvOrdArg<K0>, Q1: ZvOrdArg<K1>, L: Ledger>(
         &self,
         key0: &Q0,
@@ -245,6 +251,7 @@ impl<'a, K0: ZvOrd, K1: ZvOrd, V: ZvKind> ZeroMap2dBorrowed<'a, K0, K1, V> {
     }
 
     // The look-up with a counter that nobody reads.
+    #[inline(always)]
     fn get_2d_from<Q0: ZvOrdArg<K0>, Q1: ZvOrdArg<K1>, L: Ledger>(
         &self,
         key0: &Q0,

@@ -198,6 +198,7 @@ impl<
     }
 
     /// The same map, of the same bytes, as views.
+    #[inline(always)]
     pub(crate) fn as_borrowed(&self) -> ZeroMap2dBorrowed<'_, K0, K1, V>
         requires { IsWell K0.cmp K1.cmp self.now.rows }
         ensures rows { rows_in result ≡ self.now.rows }
