@@ -23,7 +23,7 @@ returns-clause-refused g c =
     taken_alike takes g.met.C.ZvContainer.any_order xs ys (same_elements xs c.args.permutation.now c.requires) in
     cc
 
-pub zvl_elements_at-requires : goal.elements_at-requires
+pub zvl_elements_at-requires : goal.zvl_elements_at-requires
 zvl_elements_at-requires g c κs =
     let xs = g.C.ZeroVecLike.list c.args.self.now in
     let ys = permuted xs c.args.permutation.now in
