@@ -7,7 +7,6 @@ ghost use Rattle.zv_map.specs.Keys.{nth};
 ghost use Rattle.zv_map.specs.declared.view.Form.TheVariants.{Fixed};
 
 use crate::error::{MapError, TooLarge};
-use crate::permute::pushed_at;
 use crate::vecs::{MutableZeroVecLike, ZeroVecLike, ZvContainer};
 use crate::view::{Form, KvSlice, RawView};
 use std::alloc::Global;
@@ -251,11 +250,6 @@ impl<'a, T: AsULE> MutableZeroVecLike<'a, T> for ZeroVec<'a, T> {
     #[inline]
     fn zvl_clone(&self, alloc: Global) -> Result<Self, NoMemory> {
         self.clone(alloc)
-    }
-
-    #[inline]
-    fn zvl_elements_at(&self, alloc: Global, places: &[usize]) -> Result<Self, MapError> {
-        pushed_at(self, alloc, places)
     }
 
     #[inline]

@@ -35,7 +35,7 @@ pub trait ZeroVecPermute<'a, T: ZvKind>: MutableZeroVecLike<'a, T> {
 }
 
 /// The views at the places, one after another.
-pub(crate) fn views_at<'b, T: ZvKind>(
+fn views_at<'b, T: ZvKind>(
     elements: KvSlice<'b, T>,
     alloc: Global,
     places: &[usize],
@@ -52,7 +52,29 @@ pub(crate) fn views_at<'b, T: ZvKind>(
 }
 
 /// The elements at the places, pushed one after another into a container of their own.
-pub(crate) fn pushed_at<'a, T: ZvKind, C: MutableZeroVecLike<'a, T>>(
+fn pushed_at<'a, T: ZvKind, C: MutableZeroVecLike<'a, T>>(
+    elements: KvSlice<'_, T>,
+    alloc: Global,
+    places: &[usize],
+) -> Result<C, MapError>
+    requires within { All (λ i. i < length (list_of elements)) places.now }
+    requires taken { takes_pushes C.takes_insert [] (permuted (list_of elements) places.now)
+        ≡ true }
+    ensures ok { IfOk result (λ c. C.list c ≡ permuted (list_of elements.entry) places.now) }
+    ensures owned { IfOk result (λ c. C.owned c ≡ true) }
+    ensures err { IfErr result (λ e. e ≡ Memory) }
+{
+    let mut ordered = C::zvl_new();
+    ordered.zvl_reserve_bytes(alloc, elements.bytes().len())?;
+    for place in places {
+        ordered.zvl_push(alloc, &elements.at(*place))?;
+    }
+    Ok(ordered)
+}
+
+/// The elements at the places, one after another, in a container of their own: written at once where
+/// the container has fields, which a push moves, if it can do that.
+fn elements_at<'a, T: ZvKind, C: MutableZeroVecLike<'a, T>>(
     list: &C,
     alloc: Global,
     places: &[usize],
@@ -65,12 +87,14 @@ pub(crate) fn pushed_at<'a, T: ZvKind, C: MutableZeroVecLike<'a, T>>(
     ensures err { IfErr result (λ e. e ≡ Memory) }
 {
     let elements = list.zvl_as_borrowed();
-    let mut ordered = C::zvl_new();
-    ordered.zvl_reserve_bytes(alloc, elements.bytes().len())?;
-    for place in places {
-        ordered.zvl_push(alloc, &elements.at(*place))?;
+    if list.zvl_field() > 0 {
+        let views = views_at(elements, alloc, places)?;
+        let mut ordered = C::zvl_new();
+        if ordered.zvl_write_elements(alloc, &views)? {
+            return Ok(ordered);
+        }
     }
-    Ok(ordered)
+    pushed_at(elements, alloc, places)
 }
 
 impl<'a, T: ZvKind, C: MutableZeroVecLike<'a, T>> ZeroVecPermute<'a, T> for C {
@@ -78,7 +102,7 @@ impl<'a, T: ZvKind, C: MutableZeroVecLike<'a, T>> ZeroVecPermute<'a, T> for C {
         if !self.zvl_takes_elements() {
             return Err(MapError::TooLarge);
         }
-        *self = self.zvl_elements_at(alloc, permutation)?;
+        *self = elements_at(self, alloc, permutation)?;
         Ok(())
     }
 }

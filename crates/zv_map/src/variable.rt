@@ -14,7 +14,6 @@ ghost use Rattle.zv_map.specs.declared.view.Form.TheVariants.{Index16 as FormInd
 ghost use Rattle.zv_map.specs.declared.view.Form.TheVariants.{Index32 as FormIndex32};
 
 use crate::error::{MapError, TooLarge};
-use crate::permute::{pushed_at, views_at};
 use crate::search::Indexed;
 use crate::vecs::{MutableZeroVecLike, ZeroVecLike, ZvContainer};
 use crate::view::{Form, KvSlice, RawView};
@@ -223,6 +222,21 @@ impl<'a, T: ZvKind, F: MapForm> ZvContainer<T> for VarZeroVec<'a, T, F> {
         self.reserve_bytes(alloc, n)
     }
 
+    fn zvl_write_elements(
+        &mut self,
+        alloc: Global,
+        elements: &[VarRef<'_, T>],
+    ) -> Result<bool, NoMemory> {
+        match VarZeroVecOwned::try_from_elements(alloc, elements) {
+            Ok(owned) => {
+                *self = VarZeroVec::new_owned(owned);
+                Ok(true)
+            }
+            Err(VecError::TooLarge) => Ok(false),
+            Err(VecError::Memory) => Err(NoMemory),
+        }
+    }
+
     #[inline]
     fn zvl_insert_reserved<Q: ZvArg<T>>(&mut self, index: usize, value: &Q) {
         self.insert_reserved(index, value);
@@ -309,15 +323,6 @@ impl<'a, T: ZvKind, F: MapForm> MutableZeroVecLike<'a, T> for VarZeroVec<'a, T, 
     #[inline]
     fn zvl_clone(&self, alloc: Global) -> Result<Self, NoMemory> {
         self.clone(alloc)
-    }
-
-    fn zvl_elements_at(&self, alloc: Global, places: &[usize]) -> Result<Self, MapError> {
-        let elements = views_at(self.zvl_as_borrowed(), alloc, places)?;
-        match VarZeroVecOwned::try_from_elements(alloc, &elements) {
-            Ok(owned) => Ok(VarZeroVec::new_owned(owned)),
-            Err(VecError::TooLarge) => pushed_at(self, alloc, places),
-            Err(VecError::Memory) => Err(MapError::Memory),
-        }
     }
 
     #[inline]

@@ -2,8 +2,8 @@
 ghost use Rattle.std.specs.Prelude.{◌≡◌, ℕ, ◌==◌, ◌||◌, ◌+◌, ◌*◌, ◌^◌, ◌<◌, ◌≤◌, List, []};
 ghost use Rattle.std.specs.Prelude.{◌∷◌, ◌++◌};
 ghost use Rattle.std.specs.Prelude.{length, Option, None, is_some, IfSome, Bool, true, false, not};
-ghost use Rattle.std.specs.Prelude.{IsTrue, IfErr, IfOk, OnOk, OnErr, is_ok, set, IsPermutation};
-ghost use Rattle.std.specs.List.{All, AllByRecursion, insert, remove, slice_get};
+ghost use Rattle.std.specs.Prelude.{IsFalse, IsTrue, IfOk, OnOk, OnErr, map, is_ok, set, IsPermutation};
+ghost use Rattle.std.specs.List.{AllByRecursion, insert, remove, slice_get};
 ghost use Rattle.std.specs.Option.{option_map};
 ghost use Rattle.std.specs.Result.{result_err};
 ghost use Rattle.zv_ule.specs.Bytes.{IsBytes};
@@ -12,11 +12,9 @@ ghost use Rattle.zv_ule.specs.declared.error.UleError.{UleError};
 ghost use Rattle.zv_owned.specs.Size.{takes_pushes};
 ghost use Rattle.zv_map.specs.Forms.{list_in, spells_in};
 ghost use Rattle.zv_map.specs.Keys.{IsElementOf, nth};
-ghost use Rattle.zv_map.specs.Permuted.{permuted};
 ghost use Rattle.zv_map.specs.Refusals.{TooLargeUnless};
 ghost use Rattle.zv_map.specs.Reserved.{HasPlace, HasRoom, IsTaken, put_at, takes_put};
 ghost use Rattle.zv_map.specs.Views.{bytes_of, list_of};
-ghost use Rattle.zv_map.specs.declared.error.MapError.TheVariants.{Memory};
 ghost use Rattle.zv_map.specs.declared.view.Form.{Form};
 
 use crate::error::{MapError, TooLarge};
@@ -199,6 +197,24 @@ pub trait ZvContainer<T: ZvKind>: ZeroVecLike<T> {
         ensures spare { Self.spare self.old ≤ Self.spare self.new }
         ensures err { OnErr result (self.new ≡ self.old) };
 
+    /// Makes the container a list of its own of these elements, written at once, if it can: `false`
+    /// means that nothing is done.
+    #[inline]
+    fn zvl_write_elements(
+        &mut self,
+        _alloc: Global,
+        _elements: &[VarRef<'_, T>],
+    ) -> Result<bool, NoMemory>
+        requires { IsTrue T.usable }
+        ensures list { IfOk result (λ written. IsTrue written →
+            Self.list self.new ≡ map element_of _elements.now) }
+        ensures owned { IfOk result (λ written. IsTrue written → Self.owned self.new ≡ true) }
+        ensures untouched { IfOk result (λ written. IsFalse written → self.new ≡ self.old) }
+        ensures err { OnErr result (self.new ≡ self.old) }
+    {
+        Ok(false)
+    }
+
     /// Puts an element, which the size rule takes, before the one at a place. It takes no memory.
     fn zvl_insert_reserved<Q: ZvArg<T>>(&mut self, index: usize, value: &Q)
         requires below { length (Q.bytes value.now) < 2 ^ 64 }
@@ -336,16 +352,6 @@ pub trait MutableZeroVecLike<'a, T: ZvKind>: ZvContainer<T> + Drop {
         ensures list { IfOk result (λ c. Self.list c ≡ Self.list self.now) }
         ensures bytes { IfOk result (λ c. Self.bytes c ≡ Self.bytes self.now) }
         ensures owned { IfOk result (λ c. Self.owned c ≡ Self.owned self.now) };
-
-    /// The elements at the places, one after another, in a container that owns its bytes. Where
-    /// elements have any length they are written at once, and else pushed one by one.
-    fn zvl_elements_at(&self, alloc: Global, places: &[usize]) -> Result<Self, MapError>
-        requires within { All (λ i. i < length (Self.list self.now)) places.now }
-        requires taken { takes_pushes Self.takes_insert []
-            (permuted (Self.list self.now) places.now) ≡ true }
-        ensures list { IfOk result (λ c. Self.list c ≡ permuted (Self.list self.now) places.now) }
-        ensures owned { IfOk result (λ c. Self.owned c ≡ true) }
-        ensures err { IfErr result (λ e. e ≡ Memory) };
 
     /// Puts an element at a place, before the one that stands there.
     fn zvl_insert<Q: ZvArg<T>>(

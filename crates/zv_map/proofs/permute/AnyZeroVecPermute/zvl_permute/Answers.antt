@@ -1,4 +1,4 @@
-use Rattle.std.proofs.Common.{◌≡◌, [], true, length, refl, sym, ◌∙◌}
+use Rattle.std.proofs.Common.{◌≡◌, [], true, length, refl}
 use Rattle.std.proofs.lemmas.Result.{err_from_is_err_and}
 use Rattle.zv_owned.specs.Size.{takes_pushes}
 use Rattle.zv_map.specs.Permuted.{permuted}
@@ -23,8 +23,8 @@ returns-clause-refused g c =
     taken_alike takes g.met.C.ZvContainer.any_order xs ys (same_elements xs c.args.permutation.now c.requires) in
     cc
 
-pub zvl_elements_at-requires : goal.zvl_elements_at-requires
-zvl_elements_at-requires g c κs =
+pub elements_at-requires : goal.elements_at-requires
+elements_at-requires g c κs =
     let xs = g.C.ZeroVecLike.list c.args.self.now in
     let ys = permuted xs c.args.permutation.now in
     let takes = g.C.ZvContainer.takes_insert in

@@ -1,0 +1,8 @@
+use Rattle.std.proofs.Common.{◌≡◌, map, take}
+use Rattle.zv_ule.specs.Views.{element_of}
+use Rattle.zv_map.specs.Permuted.{permuted}
+use Rattle.zv_map.specs.Views.{list_of}
+use Rattle.zv_map.proofs.permute.views_at.Given as goal
+
+abbrev pub invariant-loop-place : goal.invariant-loop-place
+invariant-loop-place g l = map element_of l.views.items ≡ permuted (list_of l.elements) (take l.place-index l.places)
