@@ -1,5 +1,5 @@
 // Digests by an independent implementation, however the bytes are cut.
-use zv_xxhash::XxHash64;
+use zv_xxhash::{XxHash64, digest_with_last};
 
 // A seed, a length, and the digest of that many bytes of the pattern: computed by the C library of
 // xxHash 0.8.1 (bench/digest_values.c), and for seed 0 by its command `xxhsum -H1` too.
@@ -100,6 +100,17 @@ fn digests_agree_however_cut(rt: HostRuntime) {
     for (seed, len, want) in VALUES {
         for piece in [1, 5, 31, 32, 33, 100] {
             assert!(rt; digest(seed, &bytes[..len.min(100)], piece) == want);
+        }
+    }
+}
+
+#[test]
+fn digests_agree_with_the_last_byte_elsewhere(rt: HostRuntime) {
+    let mut bytes = [0; 100];
+    write_pattern(&mut bytes);
+    for (seed, len, want) in VALUES {
+        if let Some((last, front)) = bytes[..len.min(100)].split_last() {
+            assert!(rt; digest_with_last(seed, front, *last) == want);
         }
     }
 }

@@ -1,11 +1,11 @@
 -- Stripes and words, one more at a time, and bytes in pieces, one after another.
-use Rattle.std.proofs.Common.{◌≡◌, ℕ, zero, suc, ◌+◌, ◌*◌, ◌/◌, ◌%◌, ◌^◌, ◌<◌, ◌≤◌, nat_le, Bool, true, ◌||◌, List, ◌++◌, length, take, drop}
+use Rattle.std.proofs.Common.{◌≡◌, ◌≢◌, ℕ, zero, suc, ◌+◌, ◌*◌, ◌/◌, ◌%◌, ◌^◌, ◌<◌, ◌≤◌, nat_le, Bool, true, ◌||◌, List, [], ◌∷◌, ◌++◌, length, take, drop}
 use Rattle.std.proofs.Common.{refl, ap, sym, ◌∙◌, arith, length-append, length-drop, drop-drop}
 use Rattle.std.proofs.lemmas.Bool.Decides.{nat_tests}
 use Rattle.std.proofs.lemmas.List.{drop-append-le, take-append-le, take-append-drop, append_assoc, take_at, drop_at}
 use Rattle.zv_xxhash.specs.Held.{Holds}
 use Rattle.zv_xxhash.specs.declared.hasher.XxHash64.{XxHash64}
-use Rattle.zv_xxhash.specs.Digest.{all_lanes, first_lanes, lanes_after, left_over, with_end, with_rest, with_word}
+use Rattle.zv_xxhash.specs.Digest.{all_lanes, first_lanes, lanes_after, left_over, with_byte, with_bytes, with_end, with_rest, with_word}
 
 -- fewer bytes than a stripe
 pub lanes_few : (lanes b : List ℕ) → length b < 32 → all_lanes lanes b ≡ lanes
@@ -28,12 +28,27 @@ left_step b long =
 pub rest_few : (h : ℕ) (b : List ℕ) → length b < 8 → with_rest h b ≡ with_end h b
 rest_few h b few = let none : length b / 8 ≡ 0 = omega arith in let from : 8 * (length b / 8) ≡ 0 = omega arith in rw (from, none)
 
-pub rest_step : (h : ℕ) (b : List ℕ) → 8 ≤ length b → with_rest h b ≡ with_rest (with_word h b) (drop 8 b)
+rest_step : (h : ℕ) (b : List ℕ) → 8 ≤ length b → with_rest h b ≡ with_rest (with_word h b) (drop 8 b)
 rest_step h b long =
     let k : ℕ = length (drop 8 b) / 8 in
     let more : length b / 8 ≡ suc k = omega (arith, length-drop 8 b) in
     let from : drop (8 * suc k) b ≡ drop (8 * k) (drop 8 b) = ap (λ n. drop n b) (omega arith) ∙ sym (drop-drop (8 * k) 8 b) in
     rw (more, from)
+
+pub rest_step_more : (h : ℕ) (b others : List ℕ) → 8 ≤ length b → with_rest h (b ++ others) ≡ with_rest (with_word h b) (drop 8 b ++ others)
+rest_step_more h b others long =
+    rw (take-append-le 8 b others long, drop-append-le 8 b others long) at (rest_step h (b ++ others) (omega (arith, length-append b others)))
+
+-- bytes, and one behind them; and fewer bytes than a word with it, where it fills no half word
+bytes_and_last : (h : ℕ) (b : List ℕ) (last : ℕ) → with_bytes h (b ++ last ∷ []) ≡ with_byte (with_bytes h b) last
+bytes_and_last h [] last = refl
+bytes_and_last h (x ∷ b) last = bytes_and_last (with_byte h x) b last
+
+pub end_and_last : (h : ℕ) (b : List ℕ) (last : ℕ) → length b < 7 → length b ≢ 3 → with_rest h (b ++ last ∷ []) ≡ with_byte (with_end h b) last
+end_and_last h b last few no_half =
+    let d = last ∷ [] in
+    let whole = rest_few h (b ++ d) (omega (arith, length-append b d)) in
+    grind (arith, nat_tests, whole, length-append b d, take-append-le 4 b d, drop-append-le 4 b d, bytes_and_last)
 
 -- more bytes go on from the lanes and the bytes left
 pub goes_on : (n : ℕ) (lanes m d : List ℕ) → length m / 32 ≡ n

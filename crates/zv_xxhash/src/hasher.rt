@@ -24,6 +24,7 @@ impl XxHash64 {
     ghost use Rattle.zv_xxhash.specs.Held.{Holds};
 
     /// A hasher to which nothing was written.
+    #[inline(always)]
     pub fn with_seed(seed: u64) -> Self
         ensures { Holds result seed [] }
     {
@@ -37,6 +38,7 @@ impl XxHash64 {
     }
 
     /// Writes more bytes. Whole stripes are hashed where they lie; fewer than 32 bytes are kept.
+    #[inline(always)]
     pub fn write(&mut self, bytes: &[u8])
         ensures { (seed : ℕ) (written : List ℕ) → Holds self.old seed written →
             Holds self.new seed (written ++ bytes.now) }
@@ -46,13 +48,12 @@ impl XxHash64 {
             self.pending.push(bytes);
             return;
         }
-        let rest = complete_stripe(&mut self.lanes, &self.pending, bytes);
-        let tail = add_stripes(&mut self.lanes, rest);
-        self.pending.replace(tail);
+        take_stripes(&mut self.lanes, &mut self.pending, bytes);
         self.is_striped = true;
     }
 
     /// The digest of all bytes written. More may be written after it.
+    #[inline(always)]
     pub fn finish(&self) -> u64
         ensures { (seed : ℕ) (written : List ℕ) → Holds self.now seed written →
             result ≡ xxh64 seed written }
@@ -62,6 +63,7 @@ impl XxHash64 {
     }
 
     /// The hash of the whole stripes, or of the seed where there is none.
+    #[inline(always)]
     fn opening(&self) -> u64
         ensures { (seed : ℕ) (written : List ℕ) → Holds self.now seed written →
             result ≡ opening seed written }
@@ -72,6 +74,18 @@ impl XxHash64 {
             self.seed.wrapping_add(PRIME_5)
         }
     }
+}
+
+/// Hashes the stripes of the pending bytes and of those that follow them, and keeps what is left.
+#[inline(never)]
+fn take_stripes(lanes: &mut [u64; 4], pending: &mut Pending, bytes: &[u8])
+    requires { STRIPE ≤ length pending.old + length bytes.now }
+    ensures lanes { lanes.new ≡ all_lanes lanes.old (pending.old ++ bytes.now) }
+    ensures left { pending.new ≡ left_over (pending.old ++ bytes.now) }
+{
+    let rest = complete_stripe(lanes, pending, bytes);
+    let tail = add_stripes(lanes, rest);
+    pending.replace(tail);
 }
 
 /// The stripe that begins with the pending bytes, if there are any; what follows it is handed back.

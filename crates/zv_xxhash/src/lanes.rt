@@ -19,6 +19,7 @@ pub fn mix(lane: u64, input: u64) -> u64
 }
 
 /// The lanes before the first stripe.
+#[inline(always)]
 pub fn start(seed: u64) -> [u64; 4]
     ensures { result ≡ first_lanes seed }
 {
@@ -68,6 +69,7 @@ fn merge(hash: u64, lane: u64) -> u64
 }
 
 /// The four lanes as one number.
+#[inline(never)]
 pub fn converge(lanes: [u64; 4]) -> u64
     ensures { result ≡ converged lanes }
 {

@@ -3,8 +3,10 @@
 
 pub mod hasher;
 mod lanes;
+mod one_piece;
 mod pending;
 mod tail;
 mod words;
 
 pub use hasher::XxHash64;
+pub use one_piece::digest_with_last;

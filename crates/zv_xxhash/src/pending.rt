@@ -23,6 +23,7 @@ impl Model for Pending {
 
 impl Pending {
     /// No bytes.
+    #[inline(always)]
     pub fn new() -> Self
         ensures { result ≡ [] }
     {
@@ -33,6 +34,7 @@ impl Pending {
     }
 
     /// How many bytes there are.
+    #[inline(always)]
     pub fn len(&self) -> usize
         ensures len { result ≡ length self.now }
         ensures within { result < STRIPE }
@@ -41,6 +43,7 @@ impl Pending {
     }
 
     /// The bytes.
+    #[inline(always)]
     pub fn as_slice(&self) -> &[u8]
         ensures { result.now ≡ self.now }
     {
@@ -57,6 +60,7 @@ impl Pending {
     }
 
     /// These bytes after the old ones.
+    #[inline(always)]
     pub fn push(&mut self, bytes: &[u8])
         requires { length self.old + length bytes.now < STRIPE }
         ensures { self.new ≡ self.old ++ bytes.now }

@@ -11,5 +11,5 @@ returns-then-bytes-len c = λ seed written held.
 
 pub returns : goal.returns
 returns c = λ seed written held.
-    holds_more c.args.self.now seed written c.args.bytes.now _ _ _ held (c.add_stripes-tail.ensures.lanes ∙ c.complete_stripe-rest.ensures.lanes)
-    (c.replace.ensures ∙ c.add_stripes-tail.ensures.left ∙ c.complete_stripe-rest.ensures.left) (many_flag c.args.self.now.is_striped _ (omega arith))
+    holds_more c.args.self.now seed written c.args.bytes.now _ _ _ held c.take_stripes.ensures.lanes
+    c.take_stripes.ensures.left (many_flag c.args.self.now.is_striped _ (omega arith))
