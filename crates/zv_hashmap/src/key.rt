@@ -28,6 +28,18 @@ pub trait HashBytes: ZvOrd {
         requires spells { Self.fault element.now ≡ None }
         ensures { Writes hasher.old hasher.new (hashed element.now) };
 
+    /// The hash of an element: XXH64 of the bytes that are hashed for it.
+    #[inline]
+    fn element_hash(element: &[u8]) -> u64
+        requires usable { IsTrue Self.usable }
+        requires spells { Self.fault element.now ≡ None }
+        ensures { result ≡ key_hash hashed element.now }
+    {
+        let mut hasher = XxHash64::with_seed(SEED);
+        Self::hash_element(element, &mut hasher);
+        hasher.finish()
+    }
+
     /// For elements that compare Equal the same bytes are hashed. It holds of all lists of numbers,
     /// as the laws of orders do.
     ghost alike: { (a b : List ℕ) → Self.cmp a b ≡ Equal → hashed a ≡ hashed b };
@@ -41,6 +53,18 @@ pub trait HashArg<K: HashBytes>: ZvArg<K> {
         requires usable { IsTrue K.usable }
         requires below { length (Self.bytes self.now) < 2 ^ 64 }
         ensures { Writes hasher.old hasher.new (K.hashed (Self.bytes self.now)) };
+
+    /// The hash of the argument.
+    #[inline]
+    fn arg_hash(&self) -> u64
+        requires usable { IsTrue K.usable }
+        requires below { length (Self.bytes self.now) < 2 ^ 64 }
+        ensures { result ≡ key_hash K.hashed (Self.bytes self.now) }
+    {
+        let mut hasher = XxHash64::with_seed(SEED);
+        self.hash_arg(&mut hasher);
+        hasher.finish()
+    }
 }
 
 /// A type of fixed width whose values can be keys, and parts of keys. Values that compare Equal are
@@ -85,12 +109,22 @@ impl<K: HashBytes> HashArg<K> for VarRef<'_, K> {
     fn hash_arg(&self, hasher: &mut XxHash64) {
         K::hash_element(self.as_bytes(), hasher);
     }
+
+    #[inline]
+    fn arg_hash(&self) -> u64 {
+        K::element_hash(self.as_bytes())
+    }
 }
 
 impl<K: HashBytes> HashArg<K> for VarBox<K> {
     #[inline]
     fn hash_arg(&self, hasher: &mut XxHash64) {
         K::hash_element(self.as_bytes(), hasher);
+    }
+
+    #[inline]
+    fn arg_hash(&self) -> u64 {
+        K::element_hash(self.as_bytes())
     }
 }
 
@@ -101,7 +135,5 @@ pub fn compute_hash<K: HashBytes, Q: HashArg<K>>(key: &Q) -> u64
     requires below { length (Q.bytes key.now) < 2 ^ 64 }
     ensures { result ≡ key_hash K.hashed (Q.bytes key.now) }
 {
-    let mut hasher = XxHash64::with_seed(SEED);
-    key.hash_arg(&mut hasher);
-    hasher.finish()
+    key.arg_hash()
 }

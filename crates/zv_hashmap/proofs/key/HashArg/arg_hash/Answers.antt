@@ -1,5 +1,5 @@
 use Rattle.std.proofs.Common.{[]}
-use Rattle.zv_hashmap.proofs.key.compute_hash.Goals as goal
+use Rattle.zv_hashmap.proofs.key.HashArg.arg_hash.Goals as goal
 
 pub returns : goal.returns
 returns g c = c.finish.ensures 0xAABBCCDD _ (c.hash_arg.ensures 0xAABBCCDD [] c.with_seed-hasher.ensures)
