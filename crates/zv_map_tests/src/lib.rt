@@ -6,6 +6,8 @@ mod casts;
 #[cfg(test)]
 mod counted;
 #[cfg(test)]
+mod defaults;
+#[cfg(test)]
 mod look_ups;
 #[cfg(test)]
 mod many;
