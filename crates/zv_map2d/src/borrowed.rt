@@ -58,6 +58,8 @@ where
     K1: ZvOrd + UsableKind,
     V: ZvKind + UsableKind,
 {
+    ghost use Rattle.zv_map2d.specs.Borrowed.{rows_in};
+
     ghost is_default = { λ m. rows_in m ≡ [] };
 
     #[inline]
