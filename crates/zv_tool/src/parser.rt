@@ -59,11 +59,7 @@ fn add_line(alloc: Global, parsed: &mut Parsed, line: &[u8]) -> Result<(), NoMem
 }
 
 // Adds what the whole lines of a text say, and gives what follows its last LF.
-fn add_lines<'t>(
-    alloc: Global,
-    parsed: &mut Parsed,
-    text: &'t [u8],
-) -> Result<&'t [u8], NoMemory>
+fn add_lines<'t>(alloc: Global, parsed: &mut Parsed, text: &'t [u8]) -> Result<&'t [u8], NoMemory>
     requires { size_of parsed.old + length text.now ≤ MAX_COMMANDS }
     ensures same { IfOk result (λ tail. (rest : List ℕ)
         → joined parsed.old (lines (text.now ++ rest))
@@ -105,8 +101,9 @@ pub(crate) struct Parser {
 
 impl Parser {
     /// An input of which nothing came.
+    #[tactic(auto, unfolding(crate::specs::Input::parse_input))]
     fn new(alloc: Global) -> Parser
-        ensures same { (rest : List ℕ) → parse_lines (lines rest) ≡ parsed_with result rest }
+        ensures same { (rest : List ℕ) → parse_input rest ≡ parsed_with result rest }
         ensures partial { Lacks 10 result.tail.items }
         ensures empty { kept_size result ≡ 0 }
     {
@@ -158,7 +155,7 @@ impl Parser {
 // Reads a source to its end.
 fn read_parser<S: Source>(alloc: Global, source: &mut S) -> Result<Parser, ReadError>
     ensures same { IfOk result (λ parser. IfSome (S.left source.old) (λ input.
-        parse_lines (lines input) ≡ parsed_with parser [])) }
+        parse_input input ≡ parsed_with parser [])) }
     ensures partial { IfOk result (λ parser. Lacks 10 parser.tail.items) }
     ensures room { IfOk result (λ parser. kept_size parser ≤ MAX_INPUT) }
     ensures within { OnOk result (IfSome (S.left source.old) (λ input.
@@ -191,9 +188,8 @@ fn read_parser<S: Source>(alloc: Global, source: &mut S) -> Result<Parser, ReadE
     }
 }
 
-/// Reads a source to its end, and parses what it gives: an image in hex, and a command a line. Of
-/// the input only what follows the last LF is kept.
-#[tactic(auto, unfolding(crate::specs::Input::parse_input))]
+/// Reads a source to its end and parses what it gives: an image in hex, and a command a line. Of
+/// the bytes that came only those after the last LF are kept.
 pub(crate) fn read_request<S: Source>(
     alloc: Global,
     source: &mut S,

@@ -7,8 +7,8 @@ ghost use Rattle.zv_tool.specs.Input.{look_input, parse_input};
 ghost use Rattle.zv_tool.specs.Output.{bad_line, cause_line};
 ghost use Rattle.zv_tool.specs.Program.{form_of, is_edit, is_look, names_form};
 ghost use Rattle.zv_tool.specs.Program.{is_answer, is_silent, is_written};
-ghost use Rattle.zv_tool.specs.Program.{FormText, FormWanted, ImageText, InputText, WantedText};
-ghost use Rattle.zv_tool.specs.Program.{IsWantedStatus, status_of_form, status_of_image};
+ghost use Rattle.zv_tool.specs.Program.{FormWanted, ImageText, WantedText};
+ghost use Rattle.zv_tool.specs.Program.{IsWantedStatus, status_of_image};
 ghost use Rattle.zv_tool.specs.Program.{status_of_look, status_of_parsed};
 ghost use Rattle.zv_tool.specs.Program.{Sent};
 
@@ -102,9 +102,10 @@ pub(crate) fn name_line<K: Sink>(alloc: Global, number: u64, sink: &mut K) -> St
 // Reads the source to its end and runs the commands of what it gives.
 fn run_edit<S: Source, K: Sink>(alloc: Global, source: &mut S, sink: &mut K) -> Status
     ensures written { IsTrue (is_answer result)
-        → Written (FormWanted Form.Edit (S.left source.old)) (K.taken sink.old) (K.taken sink.new) }
+        → Written (FormWanted Form.Edit (S.left source.old))
+        (K.taken sink.old) (K.taken sink.new) }
     ensures status { IsTrue (is_answer result) → IfSome (S.left source.old) (λ input.
-        result ≡ status_of_form Form.Edit input) }
+        result ≡ status_of_parsed (parse_input input)) }
     ensures other { IsTrue (is_answer result) ⊎ IsTrue (is_silent result)
         ⊎ (result ≡ Status.WriteFault) }
     ensures silent { IsTrue (is_silent result) → sink.new ≡ sink.old }
@@ -113,7 +114,7 @@ fn run_edit<S: Source, K: Sink>(alloc: Global, source: &mut S, sink: &mut K) -> 
         (K.taken sink.old) (K.taken sink.new) }
     ensures end { IsTrue (is_answer result) → IsAtEnd (S.left source.new) }
     ensures complete { IfSome (S.left source.old) (λ input. length input ≤ MAX_INPUT →
-        (result ≡ status_of_form Form.Edit input)
+        (result ≡ status_of_parsed (parse_input input))
         ⊎ (result ≡ Status.Memory)
         ⊎ Rose (S.faults source.old) (S.faults source.new)
         ⊎ Rose (K.faults sink.old) (K.faults sink.new)) }
@@ -144,9 +145,10 @@ fn run_look<S: Source, K: Sink>(
     sink: &mut K,
 ) -> Status
     ensures written { IsTrue (is_answer result)
-        → Written (FormWanted (Form.Look key0.now key1.now) (S.left source.old)) (K.taken sink.old) (K.taken sink.new) }
+        → Written (FormWanted (Form.Look key0.now key1.now) (S.left source.old))
+        (K.taken sink.old) (K.taken sink.new) }
     ensures status { IsTrue (is_answer result) → IfSome (S.left source.old) (λ input.
-        result ≡ status_of_form (Form.Look key0.now key1.now) input) }
+        result ≡ status_of_look (look_input input)) }
     ensures other { IsTrue (is_answer result) ⊎ IsTrue (is_silent result)
         ⊎ (result ≡ Status.WriteFault) }
     ensures silent { IsTrue (is_silent result) → sink.new ≡ sink.old }
@@ -155,7 +157,7 @@ fn run_look<S: Source, K: Sink>(
         (K.taken sink.old) (K.taken sink.new) }
     ensures end { IsTrue (is_answer result) → IsAtEnd (S.left source.new) }
     ensures complete { IfSome (S.left source.old) (λ input. length input ≤ MAX_INPUT →
-        (result ≡ status_of_form (Form.Look key0.now key1.now) input)
+        (result ≡ status_of_look (look_input input))
         ⊎ (result ≡ Status.Memory)
         ⊎ Rose (S.faults source.old) (S.faults source.new)
         ⊎ Rose (K.faults sink.old) (K.faults sink.new)) }
@@ -173,39 +175,6 @@ fn run_look<S: Source, K: Sink>(
         Err(ReadError::Fault) => Status::ReadFault,
         Err(ReadError::TooLong) => Status::TooLong,
         Err(ReadError::Memory) => Status::Memory,
-    }
-}
-
-// Reads the source to its end and answers it.
-fn run_form<S: Source, K: Sink>(alloc: Global, form: &Form, source: &mut S, sink: &mut K) -> Status
-    ensures written { IsTrue (is_answer result)
-        → Written (FormWanted form.now (S.left source.old)) (K.taken sink.old) (K.taken sink.new) }
-    ensures status { IsTrue (is_answer result) → IfSome (S.left source.old) (λ input.
-        result ≡ status_of_form form.now input) }
-    ensures other { IsTrue (is_answer result) ⊎ IsTrue (is_silent result)
-        ⊎ (result ≡ Status.WriteFault) }
-    ensures silent { IsTrue (is_silent result) → sink.new ≡ sink.old }
-    ensures cut { result ≡ Status.WriteFault
-        → CutShort (FormWanted form.now (S.left source.old))
-        (K.taken sink.old) (K.taken sink.new) }
-    ensures end { IsTrue (is_answer result) → IsAtEnd (S.left source.new) }
-    ensures complete { IfSome (S.left source.old) (λ input. length input ≤ MAX_INPUT →
-        (result ≡ status_of_form form.now input)
-        ⊎ (result ≡ Status.Memory)
-        ⊎ Rose (S.faults source.old) (S.faults source.new)
-        ⊎ Rose (K.faults sink.old) (K.faults sink.new)) }
-    ensures read_fault { result ≡ Status.ReadFault
-        → Rose (S.faults source.old) (S.faults source.new) }
-    ensures too_long { result ≡ Status.TooLong
-        → IfSome (S.left source.old) (λ input. MAX_INPUT < length input) }
-    ensures write_fault { result ≡ Status.WriteFault
-        → Rose (K.faults sink.old) (K.faults sink.new) }
-    ensures later_reads { S.faults source.old ≤ S.faults source.new }
-    ensures later_writes { K.faults sink.old ≤ K.faults sink.new }
-{
-    match form {
-        Form::Edit => run_edit(alloc, source, sink),
-        Form::Look { key0, key1 } => run_look(alloc, key0, key1, source, sink),
     }
 }
 
@@ -274,7 +243,8 @@ pub fn run<S: Source, K: Sink>(alloc: Global, words: &Words, source: &mut S, sin
     ensures later_writes { K.faults sink.old ≤ K.faults sink.new }
 {
     match read_form(alloc, words) {
-        Ok(Some(form)) => run_form(alloc, &form, source, sink),
+        Ok(Some(Form::Edit)) => run_edit(alloc, source, sink),
+        Ok(Some(Form::Look { key0, key1 })) => run_look(alloc, &key0, &key1, source, sink),
         Ok(None) => send(sink, b"usage: zv COMMAND\n", Status::Usage),
         Err(NoMemory) => Status::Memory,
     }

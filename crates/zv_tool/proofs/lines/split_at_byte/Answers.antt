@@ -1,4 +1,4 @@
-use Rattle.std.proofs.Common.{◌+◌, ◌-◌, ◌++◌, ◌∷◌, take, drop, length, ◌∙◌, ap, refl, subst, eq-eqb}
+use Rattle.std.proofs.Common.{◌+◌, ◌-◌, take, drop, length, ◌∙◌, ap, refl, subst, eq-eqb}
 use Rattle.std.specs.List.{slice_split}
 use Rattle.std.proofs.Math.Seq.{take-length}
 use Rattle.std.proofs.lemmas.List.Splits.{slice_split_at, slice_split_none}

@@ -1,7 +1,7 @@
-use Rattle.std.proofs.Common.{◌≡◌, ◌+◌, ◌++◌, ◌∷◌, [], List, ℕ, length, ◌∙◌, ap, arith, rules, length-append}
+use Rattle.std.proofs.Common.{◌≡◌, ◌++◌, ◌∷◌, [], List, ℕ, length, ◌∙◌, ap, arith, rules, length-append}
 use Rattle.std.proofs.lemmas.List.Elements.{All-nil}
 use Rattle.zv_tool.specs.Input.{lines}
-use Rattle.zv_tool.specs.Parser.{joined, Lacks}
+use Rattle.zv_tool.specs.Parser.{joined}
 use Rattle.zv_tool.proofs.Cutting.{line_of_parts}
 use Rattle.zv_tool.proofs.parser.add_lines.Goals as goal
 

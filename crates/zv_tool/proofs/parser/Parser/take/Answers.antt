@@ -1,4 +1,4 @@
-use Rattle.std.proofs.Common.{◌≡◌, ◌∷◌, ◌++◌, List, ℕ, ◌∙◌, ap, rules}
+use Rattle.std.proofs.Common.{◌≡◌, ◌∷◌, ◌++◌, ◌∙◌, ap, rules}
 use Rattle.zv_tool.specs.Input.{lines}
 use Rattle.zv_tool.specs.Parser.{joined}
 use Rattle.zv_tool.proofs.Cutting.{line_of_parts}
