@@ -152,7 +152,8 @@ impl Parser {
     }
 }
 
-// Reads a source to its end.
+// Reads a source to its end. Each read gives a byte or is the last, so at most 16,777,217 reads are
+// made. After a bad line it goes on, since a failed read and too many bytes come before it.
 fn read_parser<S: Source>(alloc: Global, source: &mut S) -> Result<Parser, ReadError>
     ensures same { IfOk result (λ parser. IfSome (S.left source.old) (λ input.
         parse_input input ≡ parsed_with parser [])) }
