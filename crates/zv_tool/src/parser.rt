@@ -152,13 +152,18 @@ impl Parser {
     }
 }
 
-// Reads a source to its end. Each read gives a byte or is the last, so at most 16,777,217 reads are
-// made. After a bad line it goes on, since a failed read and too many bytes come before it.
-fn read_parser<S: Source>(alloc: Global, source: &mut S) -> Result<Parser, ReadError>
-    ensures same { IfOk result (λ parser. IfSome (S.left source.old) (λ input.
-        parse_input input ≡ parsed_with parser [])) }
-    ensures partial { IfOk result (λ parser. Lacks 10 parser.tail.items) }
-    ensures room { IfOk result (λ parser. kept_size parser ≤ MAX_INPUT) }
+/// Reads a source to its end and parses what it gives: an image in hex, and a command a line. Of
+/// the bytes that came only those after the last LF are kept. A bad line doesn't end the reading,
+/// since a failed read and too many bytes come before it. Each read gives a byte or is the last, so
+/// at most 16,777,217 reads are made.
+pub(crate) fn read_request<S: Source>(
+    alloc: Global,
+    source: &mut S,
+) -> Result<Result<Request, InputError>, ReadError>
+    ensures ok { IfOk result (λ parsed. IfOk parsed (λ r. IfSome (S.left source.old) (λ input.
+        parse_input input ≡ Ok (r.image.items, r.commands)))) }
+    ensures err { IfOk result (λ parsed. IfErr parsed (λ e. IfSome (S.left source.old) (λ input.
+        ReportsLine (parse_input input) e))) }
     ensures within { OnOk result (IfSome (S.left source.old) (λ input.
         length input ≤ MAX_INPUT)) }
     ensures end { OnOk result (IsAtEnd (S.left source.new)) }
@@ -177,7 +182,7 @@ fn read_parser<S: Source>(alloc: Global, source: &mut S) -> Result<Parser, ReadE
             Err(Failed) => return Err(ReadError::Fault),
         };
         if count == 0 {
-            return Ok(parser);
+            return Ok(parser.finish(alloc));
         }
         if room < count {
             return Err(ReadError::TooLong);
@@ -187,26 +192,4 @@ fn read_parser<S: Source>(alloc: Global, source: &mut S) -> Result<Parser, ReadE
             return Err(ReadError::Memory);
         }
     }
-}
-
-/// Reads a source to its end and parses what it gives: an image in hex, and a command a line. Of
-/// the bytes that came only those after the last LF are kept.
-pub(crate) fn read_request<S: Source>(
-    alloc: Global,
-    source: &mut S,
-) -> Result<Result<Request, InputError>, ReadError>
-    ensures ok { IfOk result (λ parsed. IfOk parsed (λ r. IfSome (S.left source.old) (λ input.
-        parse_input input ≡ Ok (r.image.items, r.commands)))) }
-    ensures err { IfOk result (λ parsed. IfErr parsed (λ e. IfSome (S.left source.old) (λ input.
-        ReportsLine (parse_input input) e))) }
-    ensures within { OnOk result (IfSome (S.left source.old) (λ input.
-        length input ≤ MAX_INPUT)) }
-    ensures end { OnOk result (IsAtEnd (S.left source.new)) }
-    ensures later { S.faults source.old ≤ S.faults source.new }
-    ensures fault { IsErrOf result ReadError.Fault
-        → Rose (S.faults source.old) (S.faults source.new) }
-    ensures long { IsErrOf result ReadError.TooLong
-        → IfSome (S.left source.old) (λ input. MAX_INPUT < length input) }
-{
-    Ok(read_parser(alloc, source)?.finish(alloc))
 }

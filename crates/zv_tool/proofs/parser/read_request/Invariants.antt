@@ -1,7 +1,7 @@
 use Rattle.std.proofs.Common.{◌+◌, ◌≤◌}
 use Rattle.zv_tool.specs.Parser.{Lacks, kept_size}
 use Rattle.zv_tool.proofs.Parsing.{Parses}
-use Rattle.zv_tool.proofs.parser.read_parser.Given as goal
+use Rattle.zv_tool.proofs.parser.read_request.Given as goal
 
 -- what the bytes so far say, and those that are left
 abbrev pub invariant-loop-count : goal.invariant-loop-count
