@@ -72,8 +72,8 @@ fn pushed_at<'a, T: ZvKind, C: MutableZeroVecLike<'a, T>>(
     Ok(ordered)
 }
 
-/// The elements at the places, one after another, in a container of their own: written at once where
-/// the container has fields, which a push moves, if it can do that.
+/// The elements at the places, one after another, in a container of their own. They are written at
+/// once where the container has fields, which a push moves, if it can do that.
 fn elements_at<'a, T: ZvKind, C: MutableZeroVecLike<'a, T>>(
     list: &C,
     alloc: Global,

@@ -3,7 +3,6 @@ pub mod Cutting
 pub mod Decoding
 pub mod Edits
 pub mod Fields
-pub mod Forms
 pub mod HexText
 pub mod Left
 pub mod Parsing

@@ -1,13 +1,10 @@
 -- Commands one after another.
-use Rattle.std.proofs.Common.{◌≡◌, ℕ, ◌+◌, List, [], ◌∷◌, ◌++◌, refl, sym, ap, Some, Ok, Err, append_assoc}
-use Rattle.std.specs.Prelude.{Result}
-use Rattle.zv_tool.specs.Input.{lines, words, commands, command_of_words, command_and}
+use Rattle.std.proofs.Common.{◌≡◌, ℕ, ◌+◌, List, [], ◌∷◌, ◌++◌, length, refl, sym, ap, subst, Some, None, Ok, Err, append_assoc, arith, length-append}
+use Rattle.std.specs.Prelude.{Option, Result}
+use Rattle.zv_tool.specs.Input.{words, commands, command_of_words, command_and, parse_input}
+use Rattle.zv_tool.specs.Parser.{after_all, parsed_with}
 use Rattle.zv_tool.specs.declared.command.Command.{Command}
-
--- commands in front of those that a result gives
-abbrev pub after_all : List Command → Result (List Command) ℕ → Result (List Command) ℕ
-after_all cs (Ok ds) = Ok (cs ++ ds)
-after_all cs (Err n) = Err n
+use Rattle.zv_tool.specs.declared.parser.Parser.{Parser}
 
 -- one more command
 after_push : (cs : List Command) (c : Command) (n : ℕ) (r : Result (List Command) ℕ)
@@ -16,7 +13,17 @@ after_push cs c n (Ok ds) = ap Ok (sym (append_assoc cs (c ∷ []) ds))
 after_push cs c n (Err m) = refl
 
 -- a line that is a command goes to the commands so far
-pub one_more_command : (cs : List Command) (c : Command) (n : ℕ) (rest line after : List ℕ)
-    → lines rest ≡ line ∷ lines after → command_of_words (words line) ≡ Some c
-    → after_all cs (commands n (lines rest)) ≡ after_all (cs ++ c ∷ []) (commands (n + 1) (lines after))
-one_more_command cs c n rest line after cut said = rw (cut, said) (after_push cs c n (commands (n + 1) (lines after)))
+pub one_more_command : (cs : List Command) (c : Command) (line : List ℕ) (rest : List (List ℕ)) → command_of_words (words line) ≡ Some c
+    → after_all cs (commands (2 + length cs) (line ∷ rest)) ≡ after_all (cs ++ c ∷ []) (commands (2 + length (cs ++ c ∷ [])) rest)
+one_more_command cs c line rest said =
+    let next : 2 + length cs + 1 ≡ 2 + length (cs ++ c ∷ []) = omega (arith, length-append cs (c ∷ [])) in
+    let many = commands (2 + length cs + 1) rest in
+    rw said (subst (λ (n : ℕ). after_all cs (command_and (2 + length cs) (Some c) many) ≡ after_all (cs ++ c ∷ []) (commands n rest)) next
+    (after_push cs c (2 + length cs) many))
+
+-- a parser of the bytes that were read, with room for so many more
+abbrev pub Parses : Option (List ℕ) → Option (List ℕ) → Parser → ℕ → Type 0
+Parses None now parser room = Unit
+Parses (Some input) None parser room = ⊥
+Parses (Some input) (Some left) parser room =
+    (parse_input input ≡ parsed_with parser left) × (length input + room ≡ 16777216 + length left)

@@ -1,12 +1,12 @@
 -- What is left of the room for puts.
-use Rattle.std.proofs.Common.{◌≡◌, ◌≤◌, List, [], ◌∷◌, refl, arith, add_assoc, add-zero}
+use Rattle.std.proofs.Common.{◌≡◌, ◌≤◌, List, [], ◌∷◌, ◌++◌, refl, sym, ap, ◌∙◌, arith, add_assoc, add-zero, zero-add}
 use Rattle.std.proofs.lemmas.List.Sums.{sum_by-cons}
 use Rattle.zv_map2d.specs.Views.{Map2d}
 use Rattle.zv_tool.specs.declared.command.Command.{Command}
 use Rattle.zv_tool.specs.declared.command.Command.TheVariants.{Get, Put, Del, Row}
 use Rattle.zv_tool.specs.declared.room.PutSizes.{PutSizes}
 use Rattle.zv_tool.specs.Commands.{command_size, total_size}
-use Rattle.zv_tool.specs.Room.{HasRoomOf, SpendsOf, all_puts, no_puts, put_sizes, sizes_of, total_of}
+use Rattle.zv_tool.specs.Room.{HasRoomOf, SpendsOf, all_puts, put_sizes, sizes_of, total_of}
 
 -- room for more is room for fewer
 pub room_for_one : (a b : PutSizes) (m : Map2d) → HasRoomOf (all_puts a b) m → HasRoomOf a m
@@ -29,7 +29,7 @@ room_for_rest a b m n room spent = record {
 }
 
 -- puts are no larger than their commands
-one_within : (c : Command) → total_of (sizes_of c) ≤ command_size c
+pub one_within : (c : Command) → total_of (sizes_of c) ≤ command_size c
 one_within (Get k0 k1) = omega arith
 one_within (Put k0 k1 v) = omega arith
 one_within (Del k0 k1) = omega arith
@@ -43,5 +43,9 @@ pub all_puts_assoc : (a b c : PutSizes) → all_puts (all_puts a b) c ≡ all_pu
 all_puts_assoc a b c =
     rw (add_assoc a.keys0 b.keys0 c.keys0, add_assoc a.keys1 b.keys1 c.keys1, add_assoc a.values b.values c.values, add_assoc a.puts b.puts c.puts) refl
 
-pub all_puts_none : (a : PutSizes) → a ≡ all_puts a no_puts
-all_puts_none a = rw (add-zero a.keys0, add-zero a.keys1, add-zero a.values, add-zero a.puts) refl
+-- one put more
+pub put_sizes_push : (cs : List Command) (c : Command) → put_sizes (cs ++ c ∷ []) ≡ all_puts (put_sizes cs) (sizes_of c)
+put_sizes_push [] c =
+    let s = sizes_of c in
+    rw (add-zero s.keys0, add-zero s.keys1, add-zero s.values, add-zero s.puts, zero-add s.keys0, zero-add s.keys1, zero-add s.values, zero-add s.puts) refl
+put_sizes_push (d ∷ cs) c = ap (all_puts (sizes_of d)) (put_sizes_push cs c) ∙ sym (all_puts_assoc (sizes_of d) (put_sizes cs) (sizes_of c))

@@ -7,6 +7,7 @@ pub mod Input
 pub mod Laws
 pub mod Memory
 pub mod Output
+pub mod Parser
 pub mod Program
 pub mod Room
 pub mod Sending

@@ -3,6 +3,7 @@ ghost use Rattle.std.specs.Prelude.{◌≡◌, [], ◌∷◌, ◌++◌, OnOk, On
 ghost use Rattle.std.specs.Vec.{VecUnchanged};
 
 use crate::command::{Command, command_size};
+use crate::room::PutSizes;
 use std::alloc::Global;
 use std::marker::Model;
 
@@ -35,18 +36,21 @@ fn append(commands: &mut Vec<Command>, command: Command) -> Result<(), CommandsE
 pub struct Commands {
     commands: Vec<Command>,
     size: usize,
+    puts: PutSizes,
 }
 
 impl Model for Commands {
     ghost use Rattle.std.specs.Prelude.{List, ◌≡◌, ◌≤◌};
     ghost use Rattle.zv_tool.specs.declared.command.Command.{Command};
     ghost use Rattle.zv_tool.specs.Commands.{total_size};
+    ghost use Rattle.zv_tool.specs.Room.{put_sizes};
 
     ghost Value = { List Command };
 
     ghost view = { λ c. c.commands.items };
 
-    ghost invariant = { λ c. (c.size ≡ total_size c.commands.items) × (c.size ≤ 16777216) };
+    ghost invariant = { λ c. (c.size ≡ total_size c.commands.items) × (c.size ≤ 16777216)
+        × (c.puts ≡ put_sizes c.commands.items) };
 }
 
 impl Commands {
@@ -54,6 +58,7 @@ impl Commands {
     ghost use Rattle.std.specs.Prelude.{IsTrue, OnOk, OnErr, IsErrOf};
     ghost use Rattle.std.specs.Option.{option_copied};
     ghost use Rattle.zv_tool.specs.Commands.{total_size, command_size};
+    ghost use Rattle.zv_tool.specs.Room.{put_sizes, total_of};
 
     /// No commands. It takes no memory yet.
     pub fn new(alloc: Global) -> Commands
@@ -62,6 +67,7 @@ impl Commands {
         Commands {
             commands: Vec::new(alloc),
             size: 0,
+            puts: PutSizes::none(),
         }
     }
 
@@ -76,8 +82,11 @@ impl Commands {
         if size > MAX_COMMANDS - self.size {
             return Err(CommandsError::Full);
         }
+        let mut puts = self.puts;
+        puts.add(&command);
         append(&mut self.commands, command)?;
         self.size += size;
+        self.puts = puts;
         Ok(())
     }
 
@@ -104,9 +113,16 @@ impl Commands {
 
     // All of them.
     pub(crate) fn as_slice(&self) -> &[Command]
-        ensures all { result.now ≡ self.now }
-        ensures within { total_size self.now ≤ MAX_COMMANDS }
+        ensures { result.now ≡ self.now }
     {
         &self.commands
+    }
+
+    // The sizes of the puts among them.
+    pub(crate) fn put_sizes(&self) -> PutSizes
+        ensures sizes { result ≡ put_sizes self.now }
+        ensures within { total_of result ≤ MAX_COMMANDS }
+    {
+        self.puts
     }
 }

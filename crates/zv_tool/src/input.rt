@@ -9,8 +9,8 @@ use std::alloc::Global;
 /// The most bytes that an input has.
 pub const MAX_INPUT: usize = 16_777_216;
 
-// How many bytes are asked for at once.
-const PIECE: usize = 65_536;
+/// How many bytes are asked for at once.
+pub(crate) const PIECE: usize = 65_536;
 
 /// Why an input isn't read.
 #[derive(Clone, Copy, Debug, PartialEq, Eq)]

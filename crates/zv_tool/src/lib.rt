@@ -16,6 +16,7 @@ mod look;
 mod memory;
 mod output;
 mod parse;
+mod parser;
 mod piece;
 mod program;
 mod real;

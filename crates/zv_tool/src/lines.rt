@@ -1,11 +1,12 @@
 // Lines, words and fields.
-ghost use Rattle.std.specs.Prelude.{◌≡◌, ◌+◌, ◌<◌, ◌≤◌, [], ◌∷◌, length};
+ghost use Rattle.std.specs.Prelude.{◌≡◌, ◌<◌, [], ◌∷◌, ◌++◌, length};
 ghost use Rattle.std.specs.Prelude.{IfOk, MatchOption, Some, None};
 ghost use Rattle.std.specs.List.{slice_split};
 ghost use Rattle.memchr.specs.Find.{is_byte};
 ghost use Rattle.zv_tool.specs.Input.{lines, words, one_word, two_words, three_words};
 ghost use Rattle.zv_tool.specs.Digits.{bytes_of_digits};
 ghost use Rattle.zv_tool.specs.Input.{field, key};
+ghost use Rattle.zv_tool.specs.Parser.{Lacks};
 
 use crate::command::{KeyText, ValueBytes};
 use crate::digits::decode;
@@ -13,15 +14,16 @@ use memchr::memchr;
 use std::alloc::Global;
 use zv_ule::NoMemory;
 
-// What stands before the first such byte, and what follows it, if there is one.
+/// What stands before the first such byte, and what follows it, if there is one.
 #[inline(always)]
-fn split_at_byte(byte: u8, text: &[u8]) -> (&[u8], Option<&[u8]>)
+pub(crate) fn split_at_byte(byte: u8, text: &[u8]) -> (&[u8], Option<&[u8]>)
     ensures split { MatchOption result.1
         (slice_split (is_byte byte) text.now ≡ text.now ∷ [])
         (λ rest. slice_split (is_byte byte) text.now
         ≡ result.0.now ∷ slice_split (is_byte byte) rest.now) }
+    ensures before { Lacks byte result.0.now }
     ensures cut { MatchOption result.1 (result.0.now ≡ text.now)
-        (λ rest. length result.0.now + length rest.now + 1 ≡ length text.now) }
+        (λ rest. text.now ≡ result.0.now ++ byte ∷ rest.now) }
 {
     match memchr(byte, text) {
         Some(end) => (&text[..end], Some(&text[end + 1..])),
@@ -32,9 +34,7 @@ fn split_at_byte(byte: u8, text: &[u8]) -> (&[u8], Option<&[u8]>)
 /// The first line, and what follows it.
 pub(crate) fn cut_line(text: &[u8]) -> (&[u8], &[u8])
     requires { 0 < length text.now }
-    ensures cut { lines text.now ≡ result.0.now ∷ lines result.1.now }
-    ensures shorter { length result.1.now < length text.now }
-    ensures fits { length result.0.now + length result.1.now ≤ length text.now }
+    ensures { lines text.now ≡ result.0.now ∷ lines result.1.now }
 {
     let (line, rest) = split_at_byte(b'\n', text);
     match rest {

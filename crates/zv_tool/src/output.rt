@@ -4,6 +4,7 @@ ghost use Rattle.hex.specs.Hex.{encode_lower};
 ghost use Rattle.zv_tool.specs.Sending.{Sends};
 
 use crate::device::{Failed, Sink};
+use crate::digits::encode_to;
 use crate::piece::Piece;
 
 // How many bytes are added as hex at once.
@@ -54,8 +55,21 @@ impl<'s, K: Sink> Output<'s, K> {
         Ok(())
     }
 
-    /// Adds a text.
+    /// Adds a text: straight where there is room for it.
+    #[inline(always)]
     pub(crate) fn write(&mut self, text: &[u8]) -> Result<(), Failed>
+        ensures { Sends K.taken K.faults self.old self.new result text.now }
+    {
+        if text.len() > self.piece.room() {
+            return self.write_pieces(text);
+        }
+        self.piece.push(text);
+        Ok(())
+    }
+
+    // The same in pieces.
+    #[inline(never)]
+    fn write_pieces(&mut self, text: &[u8]) -> Result<(), Failed>
         ensures { Sends K.taken K.faults self.old self.new result text.now }
     {
         let mut rest = text;
@@ -79,7 +93,7 @@ impl<'s, K: Sink> Output<'s, K> {
         }
         let mut digits = [0u8; 2 * FEW];
         let digits = &mut digits[..2 * bytes.len()];
-        hex::encode_to_slice(bytes, digits).unwrap();
+        encode_to(bytes, digits);
         self.write(digits)
     }
 
@@ -97,6 +111,7 @@ impl<'s, K: Sink> Output<'s, K> {
     }
 
     // The same in pieces.
+    #[inline(never)]
     fn write_long_field(&mut self, head: &[u8], bytes: &[u8]) -> Result<(), Failed>
         ensures { Sends K.taken K.faults self.old self.new result
             (head.now ++ encode_lower bytes.now) }

@@ -1,15 +1,11 @@
-// Parses the input into an image and commands.
-ghost use Rattle.std.specs.Prelude.{◌≡◌, ◌+◌, ◌≤◌, [], ◌∷◌, ◌++◌, length, IfOk, IfErr, OnOk, Ok};
+// Parses the lines of commands.
+ghost use Rattle.std.specs.Prelude.{◌≡◌, ◌+◌, ◌≤◌, [], ◌∷◌, ◌++◌, IfOk, OnOk};
 ghost use Rattle.zv_tool.specs.Commands.{total_size, command_size};
-ghost use Rattle.zv_tool.specs.Input.{lines, words, get, put, del, row, command_of};
-ghost use Rattle.zv_tool.specs.Input.{command_of_words, commands, parse_input, ReportsLine};
+ghost use Rattle.zv_tool.specs.Input.{words, get, put, del, row, command_of, command_of_words};
 
 use crate::command::Command;
 use crate::commands::{Commands, CommandsError, MAX_COMMANDS};
-use crate::input::MAX_INPUT;
-use crate::lines::{
-    cut_line, cut_word, only_word, read_field, read_key, read_value, three_words, two_words,
-};
+use crate::lines::{cut_word, only_word, read_key, read_value, three_words, two_words};
 use std::alloc::Global;
 use zv_ule::NoMemory;
 
@@ -121,8 +117,8 @@ fn read_named(alloc: Global, name: &[u8], fields: &[u8]) -> Result<Option<Comman
     }
 }
 
-// The command of a line, or `None` where the line is none.
-fn read_command(alloc: Global, line: &[u8]) -> Result<Option<Command>, NoMemory>
+/// The command of a line, or `None` where the line is none.
+pub(crate) fn read_command(alloc: Global, line: &[u8]) -> Result<Option<Command>, NoMemory>
     ensures { IfOk result (λ command. command ≡ command_of_words (words line.now)) }
 {
     match cut_word(line) {
@@ -131,8 +127,8 @@ fn read_command(alloc: Global, line: &[u8]) -> Result<Option<Command>, NoMemory>
     }
 }
 
-// Adds a command, for which there is room.
-fn keep(commands: &mut Commands, command: Command) -> Result<(), NoMemory>
+/// Adds a command, for which there is room.
+pub(crate) fn keep(commands: &mut Commands, command: Command) -> Result<(), NoMemory>
     requires { total_size commands.old + command_size command ≤ MAX_COMMANDS }
     ensures { OnOk result (commands.new ≡ commands.old ++ command ∷ []) }
 {
@@ -141,44 +137,4 @@ fn keep(commands: &mut Commands, command: Command) -> Result<(), NoMemory>
         Err(CommandsError::Memory) => Err(NoMemory),
         Err(CommandsError::Full) => unreachable!(),
     }
-}
-
-// The commands of the lines from the second on. A command is no larger than its line, so the list
-// has room for all.
-fn read_commands(alloc: Global, text: &[u8]) -> Result<Commands, InputError>
-    requires { length text.now ≤ MAX_COMMANDS }
-    ensures ok { IfOk result (λ list. commands 2 (lines text.now) ≡ Ok list) }
-    ensures err { IfErr result (ReportsLine (commands 2 (lines text.now))) }
-{
-    let mut list = Commands::new(alloc);
-    let mut rest = text;
-    let mut number = 2u64;
-    while !rest.is_empty() {
-        let (line, after) = cut_line(rest);
-        let Some(command) = read_command(alloc, line)? else {
-            return Err(InputError::BadLine(number));
-        };
-        keep(&mut list, command)?;
-        rest = after;
-        number += 1;
-    }
-    Ok(list)
-}
-
-/// Parses an input: an image in hex, and a command a line.
-#[tactic(auto, unfolding(crate::specs::Input::parse_input))]
-pub(crate) fn read_request(alloc: Global, input: &[u8]) -> Result<Request, InputError>
-    requires { length input.now ≤ MAX_INPUT }
-    ensures ok { IfOk result (λ r. parse_input input.now ≡ Ok (r.image.items, r.commands)) }
-    ensures err { IfErr result (ReportsLine (parse_input input.now)) }
-{
-    if input.is_empty() {
-        return Err(InputError::BadLine(1));
-    }
-    let (first, rest) = cut_line(input);
-    let Some(image) = read_field(alloc, first)? else {
-        return Err(InputError::BadLine(1));
-    };
-    let commands = read_commands(alloc, rest)?;
-    Ok(Request { image, commands })
 }

@@ -1,4 +1,5 @@
 // The bytes of one write.
+use crate::digits::encode_to;
 use std::marker::Model;
 
 // The most bytes that are written at once.
@@ -74,7 +75,7 @@ impl Piece {
         ensures { self.new ≡ self.old ++ encode_lower bytes.now }
     {
         let end = self.len + 2 * bytes.len();
-        hex::encode_to_slice(bytes, &mut self.bytes[self.len..end]).unwrap();
+        encode_to(bytes, &mut self.bytes[self.len..end]);
         self.len = end;
     }
 }

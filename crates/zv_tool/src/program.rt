@@ -7,17 +7,19 @@ ghost use Rattle.zv_tool.specs.Input.{look_input, parse_input};
 ghost use Rattle.zv_tool.specs.Output.{bad_line, cause_line};
 ghost use Rattle.zv_tool.specs.Program.{form_of, is_edit, is_look, names_form};
 ghost use Rattle.zv_tool.specs.Program.{is_answer, is_silent, is_written};
-ghost use Rattle.zv_tool.specs.Program.{FormText, FormWanted, ImageText, InputText, WantedText};
-ghost use Rattle.zv_tool.specs.Program.{IsWantedStatus, status_of_form, status_of_image};
+ghost use Rattle.zv_tool.specs.Program.{FormWanted, ImageText, WantedText};
+ghost use Rattle.zv_tool.specs.Program.{IsWantedStatus, status_of_image};
 ghost use Rattle.zv_tool.specs.Program.{status_of_look, status_of_parsed};
 ghost use Rattle.zv_tool.specs.Program.{Sent};
 
+use crate::command::KeyText;
 use crate::device::{Failed, Sink, Source};
 use crate::edit::edit2d;
 use crate::form::{Form, read_form};
 use crate::input::{MAX_INPUT, ReadError, read_input};
 use crate::look::answer_look;
-use crate::parse::{InputError, Request, read_request};
+use crate::parse::{InputError, Request};
+use crate::parser::read_request;
 use crate::status::Status;
 use crate::words::Words;
 use std::alloc::Global;
@@ -97,65 +99,65 @@ pub(crate) fn name_line<K: Sink>(alloc: Global, number: u64, sink: &mut K) -> St
     send(sink, text.as_bytes(), Status::BadLine)
 }
 
-// Runs the commands of an input, which is let go of before the answer is built.
-fn answer_edit<K: Sink>(alloc: Global, input: Vec<u8>, sink: &mut K) -> Status
-    requires { length input.items ≤ MAX_INPUT }
+// Reads the source to its end and runs the commands of what it gives.
+fn run_edit<S: Source, K: Sink>(alloc: Global, source: &mut S, sink: &mut K) -> Status
     ensures written { IsTrue (is_answer result)
-        → Written (InputText input.items) (K.taken sink.old) (K.taken sink.new) }
-    ensures answer { IsTrue (is_answer result)
-        → result ≡ status_of_parsed (parse_input input.items) }
-    ensures status { IsTrue (is_answer result)
-        ⊎ (result ≡ Status.Memory) ⊎ (result ≡ Status.WriteFault) }
-    ensures memory { result ≡ Status.Memory → sink.new ≡ sink.old }
-    ensures cut { result ≡ Status.WriteFault
-        → CutShort (InputText input.items) (K.taken sink.old) (K.taken sink.new) }
-    ensures fault { result ≡ Status.WriteFault → Rose (K.faults sink.old) (K.faults sink.new) }
-    ensures later { K.faults sink.old ≤ K.faults sink.new }
-{
-    let parsed = read_request(alloc, &input);
-    drop(input);
-    match parsed {
-        Ok(request) => respond(alloc, &request, sink),
-        Err(InputError::BadLine(number)) => name_line(alloc, number, sink),
-        Err(InputError::Memory) => Status::Memory,
-    }
-}
-
-// Answers an input in the form that was asked for.
-fn answer<K: Sink>(alloc: Global, form: &Form, input: Vec<u8>, sink: &mut K) -> Status
-    requires { length input.items ≤ MAX_INPUT }
-    ensures written { IsTrue (is_answer result)
-        → Written (FormText form.now input.items) (K.taken sink.old) (K.taken sink.new) }
-    ensures answer { IsTrue (is_answer result) → result ≡ status_of_form form.now input.items }
-    ensures status { IsTrue (is_answer result)
-        ⊎ (result ≡ Status.Memory) ⊎ (result ≡ Status.WriteFault) }
-    ensures memory { result ≡ Status.Memory → sink.new ≡ sink.old }
-    ensures cut { result ≡ Status.WriteFault
-        → CutShort (FormText form.now input.items) (K.taken sink.old) (K.taken sink.new) }
-    ensures fault { result ≡ Status.WriteFault → Rose (K.faults sink.old) (K.faults sink.new) }
-    ensures later { K.faults sink.old ≤ K.faults sink.new }
-{
-    match form {
-        Form::Edit => answer_edit(alloc, input, sink),
-        Form::Look { key0, key1 } => answer_look(alloc, key0, key1, input, sink),
-    }
-}
-
-// Reads the source to its end and answers it.
-fn run_form<S: Source, K: Sink>(alloc: Global, form: &Form, source: &mut S, sink: &mut K) -> Status
-    ensures written { IsTrue (is_answer result)
-        → Written (FormWanted form.now (S.left source.old)) (K.taken sink.old) (K.taken sink.new) }
+        → Written (FormWanted Form.Edit (S.left source.old))
+        (K.taken sink.old) (K.taken sink.new) }
     ensures status { IsTrue (is_answer result) → IfSome (S.left source.old) (λ input.
-        result ≡ status_of_form form.now input) }
+        result ≡ status_of_parsed (parse_input input)) }
     ensures other { IsTrue (is_answer result) ⊎ IsTrue (is_silent result)
         ⊎ (result ≡ Status.WriteFault) }
     ensures silent { IsTrue (is_silent result) → sink.new ≡ sink.old }
     ensures cut { result ≡ Status.WriteFault
-        → CutShort (FormWanted form.now (S.left source.old))
+        → CutShort (FormWanted Form.Edit (S.left source.old))
         (K.taken sink.old) (K.taken sink.new) }
     ensures end { IsTrue (is_answer result) → IsAtEnd (S.left source.new) }
     ensures complete { IfSome (S.left source.old) (λ input. length input ≤ MAX_INPUT →
-        (result ≡ status_of_form form.now input)
+        (result ≡ status_of_parsed (parse_input input))
+        ⊎ (result ≡ Status.Memory)
+        ⊎ Rose (S.faults source.old) (S.faults source.new)
+        ⊎ Rose (K.faults sink.old) (K.faults sink.new)) }
+    ensures read_fault { result ≡ Status.ReadFault
+        → Rose (S.faults source.old) (S.faults source.new) }
+    ensures too_long { result ≡ Status.TooLong
+        → IfSome (S.left source.old) (λ input. MAX_INPUT < length input) }
+    ensures write_fault { result ≡ Status.WriteFault
+        → Rose (K.faults sink.old) (K.faults sink.new) }
+    ensures later_reads { S.faults source.old ≤ S.faults source.new }
+    ensures later_writes { K.faults sink.old ≤ K.faults sink.new }
+{
+    match read_request(alloc, source) {
+        Ok(Ok(request)) => respond(alloc, &request, sink),
+        Ok(Err(InputError::BadLine(number))) => name_line(alloc, number, sink),
+        Ok(Err(InputError::Memory)) | Err(ReadError::Memory) => Status::Memory,
+        Err(ReadError::Fault) => Status::ReadFault,
+        Err(ReadError::TooLong) => Status::TooLong,
+    }
+}
+
+// Reads the source to its end and looks up a pair of keys in what it gives.
+fn run_look<S: Source, K: Sink>(
+    alloc: Global,
+    key0: &KeyText,
+    key1: &KeyText,
+    source: &mut S,
+    sink: &mut K,
+) -> Status
+    ensures written { IsTrue (is_answer result)
+        → Written (FormWanted (Form.Look key0.now key1.now) (S.left source.old))
+        (K.taken sink.old) (K.taken sink.new) }
+    ensures status { IsTrue (is_answer result) → IfSome (S.left source.old) (λ input.
+        result ≡ status_of_look (look_input input)) }
+    ensures other { IsTrue (is_answer result) ⊎ IsTrue (is_silent result)
+        ⊎ (result ≡ Status.WriteFault) }
+    ensures silent { IsTrue (is_silent result) → sink.new ≡ sink.old }
+    ensures cut { result ≡ Status.WriteFault
+        → CutShort (FormWanted (Form.Look key0.now key1.now) (S.left source.old))
+        (K.taken sink.old) (K.taken sink.new) }
+    ensures end { IsTrue (is_answer result) → IsAtEnd (S.left source.new) }
+    ensures complete { IfSome (S.left source.old) (λ input. length input ≤ MAX_INPUT →
+        (result ≡ status_of_look (look_input input))
         ⊎ (result ≡ Status.Memory)
         ⊎ Rose (S.faults source.old) (S.faults source.new)
         ⊎ Rose (K.faults sink.old) (K.faults sink.new)) }
@@ -169,7 +171,7 @@ fn run_form<S: Source, K: Sink>(alloc: Global, form: &Form, source: &mut S, sink
     ensures later_writes { K.faults sink.old ≤ K.faults sink.new }
 {
     match read_input(alloc, source) {
-        Ok(input) => answer(alloc, form, input, sink),
+        Ok(input) => answer_look(alloc, key0, key1, input, sink),
         Err(ReadError::Fault) => Status::ReadFault,
         Err(ReadError::TooLong) => Status::TooLong,
         Err(ReadError::Memory) => Status::Memory,
@@ -241,7 +243,8 @@ pub fn run<S: Source, K: Sink>(alloc: Global, words: &Words, source: &mut S, sin
     ensures later_writes { K.faults sink.old ≤ K.faults sink.new }
 {
     match read_form(alloc, words) {
-        Ok(Some(form)) => run_form(alloc, &form, source, sink),
+        Ok(Some(Form::Edit)) => run_edit(alloc, source, sink),
+        Ok(Some(Form::Look { key0, key1 })) => run_look(alloc, &key0, &key1, source, sink),
         Ok(None) => send(sink, b"usage: zv COMMAND\n", Status::Usage),
         Err(NoMemory) => Status::Memory,
     }

@@ -1,7 +1,7 @@
 // Room for puts.
 ghost use Rattle.std.specs.Prelude.{◌≡◌, ◌≤◌, length, OnOk};
 ghost use Rattle.zv_map2d.specs.Rows.{seconds};
-ghost use Rattle.zv_tool.specs.Room.{HasRoomOf, all_puts, put_sizes, sizes_of, total_of};
+ghost use Rattle.zv_tool.specs.Room.{HasRoomOf, all_puts, no_puts, put_sizes, sizes_of, total_of};
 
 use crate::command::Command;
 use crate::commands::{Commands, MAX_COMMANDS};
@@ -11,7 +11,7 @@ use zv_map2d::Map2dError;
 use zv_ule::NoMemory;
 
 /// How many puts there are, and the lengths of their elements together.
-#[derive(Drop)]
+#[derive(Clone, Copy)]
 pub(crate) struct PutSizes {
     keys0: usize,
     keys1: usize,
@@ -20,8 +20,20 @@ pub(crate) struct PutSizes {
 }
 
 impl PutSizes {
-    // Adds those of a command.
-    fn add(&mut self, command: &Command)
+    /// Those of no puts.
+    pub(crate) fn none() -> PutSizes
+        ensures { result ≡ no_puts }
+    {
+        PutSizes {
+            keys0: 0,
+            keys1: 0,
+            values: 0,
+            puts: 0,
+        }
+    }
+
+    /// Adds those of a command.
+    pub(crate) fn add(&mut self, command: &Command)
         requires { total_of (all_puts self.old (sizes_of command.now)) ≤ MAX_COMMANDS }
         ensures { self.new ≡ all_puts self.old (sizes_of command.now) }
     {
@@ -32,23 +44,6 @@ impl PutSizes {
             self.puts += 1;
         }
     }
-}
-
-// The sizes of the puts among commands.
-fn put_sizes(commands: &Commands) -> PutSizes
-    ensures sizes { result ≡ put_sizes commands.now }
-    ensures within { total_of result ≤ MAX_COMMANDS }
-{
-    let mut sizes = PutSizes {
-        keys0: 0,
-        keys1: 0,
-        values: 0,
-        puts: 0,
-    };
-    for command in commands.as_slice() {
-        sizes.add(command);
-    }
-    sizes
 }
 
 /// Makes the vectors of an image's map the map's own, with room for the puts among commands, so
@@ -62,7 +57,7 @@ pub(crate) fn reserve(
     ensures rows { map.new.rows ≡ map.old.rows }
     ensures room { OnOk result (HasRoomOf (put_sizes commands.now) map.new) }
 {
-    let sizes = put_sizes(commands);
+    let sizes = commands.put_sizes();
     match map.reserve_for(alloc, sizes.keys0, sizes.keys1, sizes.values, sizes.puts) {
         Ok(()) => Ok(()),
         Err(Map2dError::Memory) => Err(NoMemory),

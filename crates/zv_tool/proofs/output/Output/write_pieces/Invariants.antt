@@ -1,6 +1,6 @@
 use Rattle.std.proofs.Common.{length}
 use Rattle.zv_tool.proofs.Sending.{Completes}
-use Rattle.zv_tool.proofs.output.Output.write.Given as goal
+use Rattle.zv_tool.proofs.output.Output.write_pieces.Given as goal
 
 abbrev pub invariant-loop-rest : goal.invariant-loop-rest
 invariant-loop-rest g l = Completes g.K.Sink.taken g.K.Sink.faults l.initial.self l.self l.fn.text l.rest

@@ -1,0 +1,30 @@
+use Rattle.std.proofs.Common.{◌≡◌, ◌∷◌, ◌++◌, [], ◌∙◌, ap, Some, arith, rules}
+use Rattle.std.proofs.lemmas.List.Sums.{sum_by_push}
+use Rattle.zv_tool.specs.Commands.{total_size, command_size}
+use Rattle.zv_tool.specs.Input.{words, command_of_words, image_and}
+use Rattle.zv_tool.specs.Parser.{joined, size_of}
+use Rattle.zv_tool.proofs.Fields.{command_fits}
+use Rattle.zv_tool.proofs.Parsing.{one_more_command}
+use Rattle.zv_tool.proofs.parser.add_line.Goals as goal
+
+pub keep-requires : goal.keep-requires
+keep-requires c =
+    let said : command_of_words (words c.args.line.now) ≡ Some c.in-Some.command = search rules in
+    let before = ap size_of c.in-Good.is in
+    omega (arith, command_fits c.args.line.now c.in-Some.command said)
+
+pub returns-in_ok-keep-in-Some : goal.returns-in_ok-keep-in-Some
+returns-in_ok-keep-in-Some c =
+    let line = c.args.line.now in
+    let command = c.in-Some.command in
+    let request = c.in-Good.request in
+    let said : command_of_words (words line) ≡ Some command = search rules in
+    let grown : c.keep.new.commands ≡ request.commands ++ command ∷ [] = c.in_ok-keep-in-Some.ensures in
+    let size = ap total_size grown ∙ sum_by_push command_size request.commands command in
+    let before = ap size_of c.in-Good.is in
+    record {
+      same = λ rest.
+          ap (λ parsed. joined parsed (line ∷ rest)) c.in-Good.is
+          ∙ rw grown (ap (image_and (Some request.image.items)) (one_more_command request.commands command line rest said));
+      fits = omega (arith, command_fits line command said);
+    }

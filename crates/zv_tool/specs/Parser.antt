@@ -1,0 +1,42 @@
+-- What an input comes to of which a part is parsed.
+use Rattle.std.specs.Prelude.{◌≡◌, ℕ, ◌+◌, List, ◌++◌, length, false, Result}
+use Rattle.std.specs.List.{All}
+use Rattle.std.specs.declared.option.Option.TheVariants.{Some}
+use Rattle.std.specs.declared.result.Result.TheVariants.{Ok, Err}
+use Rattle.memchr.specs.Find.{is_byte}
+use Rattle.zv_tool.specs.Commands.{total_size}
+use Rattle.zv_tool.specs.Input.{commands, image_and, lines, parse_lines}
+use Rattle.zv_tool.specs.declared.command.Command.{Command}
+use Rattle.zv_tool.specs.declared.parser.Parsed.{Parsed}
+use Rattle.zv_tool.specs.declared.parser.Parsed.TheVariants.{Nothing, Good, Bad}
+use Rattle.zv_tool.specs.declared.parser.Parser.{Parser}
+
+-- commands in front of those that a result gives
+abbrev pub after_all : List Command → Result (List Command) ℕ → Result (List Command) ℕ
+after_all cs (Ok ds) = Ok (cs ++ ds)
+after_all cs (Err n) = Err n
+
+-- what an input comes to, by what its lines so far say and by the lines after them
+abbrev pub joined : Parsed → List (List ℕ) → Result (List ℕ × List Command) ℕ
+joined Nothing rest = parse_lines rest
+joined (Good request) rest = image_and (Some request.image.items)
+    (after_all request.commands (commands (2 + length request.commands) rest))
+joined (Bad number) rest = Err number
+
+-- how large the commands so far are
+abbrev pub size_of : Parsed → ℕ
+size_of Nothing = 0
+size_of (Good request) = total_size request.commands
+size_of (Bad number) = 0
+
+-- No byte of the text is this one.
+abbrev pub Lacks : ℕ → List ℕ → Type 0
+Lacks byte text = All (λ b. is_byte byte b ≡ false) text
+
+-- what an input comes to, by a parser of its bytes so far and by the bytes after them
+abbrev pub parsed_with : Parser → List ℕ → Result (List ℕ × List Command) ℕ
+parsed_with parser rest = joined parser.parsed (lines (parser.tail.items ++ rest))
+
+-- how large the commands so far are, and the bytes that are kept
+abbrev pub kept_size : Parser → ℕ
+kept_size parser = size_of parser.parsed + length parser.tail.items
