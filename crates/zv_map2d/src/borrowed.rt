@@ -275,6 +275,7 @@ impl<'a, K0: ZvOrd, K1: ZvOrd, V: ZvKind> ZeroMap2dBorrowed<'a, K0, K1, V> {
     ///
     /// It searches the first keys and then one row's second keys, each by halving, and takes no
     /// memory.
+    #[inline(always)]
     pub fn get_2d<Q0: ZvOrdArg<K0>, Q1: ZvOrdArg<K1>>(
         &self,
         key0: &Q0,

@@ -24,6 +24,7 @@ use zv_ule::{SliceULE, StrULE, VarRef};
 pub type ImageMap<'a> = ZeroMap2d<'a, StrULE, StrULE, SliceULE<u8>>;
 
 /// Writes a line of a head, which ends with the mark of a field, and a value.
+#[inline(always)]
 pub(crate) fn write_value<K: Sink>(
     out: &mut Output<'_, K>,
     head: &[u8],
@@ -59,6 +60,7 @@ fn write_pairs<K: Sink>(
 }
 
 // Writes a line of a head and a value, or another text where there is none.
+#[inline(always)]
 fn write_found<K: Sink>(
     out: &mut Output<'_, K>,
     found: Option<VarRef<'_, SliceULE<u8>>>,
