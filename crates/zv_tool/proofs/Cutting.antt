@@ -48,9 +48,9 @@ line_and line rest lacks = first_line (line ++ 10 ∷ rest) line rest (slice_spl
 pub line_of_parts : (tail piece more rest after : List ℕ) → Lacks 10 tail → Lacks 10 more → piece ≡ more ++ 10 ∷ rest
     → lines (tail ++ (piece ++ after)) ≡ (tail ++ more) ∷ lines (rest ++ after)
 line_of_parts tail piece more rest after lacks_tail lacks_more is =
-    let joined : tail ++ (piece ++ after) ≡ (tail ++ more) ++ 10 ∷ (rest ++ after) =
+    let whole : tail ++ (piece ++ after) ≡ (tail ++ more) ++ 10 ∷ (rest ++ after) =
     ap (λ x. tail ++ (x ++ after)) is ∙ ap (λ x. tail ++ x) (append_assoc more (10 ∷ rest) after) ∙ sym (append_assoc tail more (10 ∷ (rest ++ after))) in
-    ap lines joined ∙ line_and (tail ++ more) (rest ++ after) (All-append (λ b. is_byte 10 b ≡ false) tail more lacks_tail lacks_more)
+    ap lines whole ∙ line_and (tail ++ more) (rest ++ after) (All-append (λ b. is_byte 10 b ≡ false) tail more lacks_tail lacks_more)
 
 -- a line with no LF
 pub last_line : (line : List ℕ) → Lacks 10 line → 0 < length line → lines line ≡ line ∷ []

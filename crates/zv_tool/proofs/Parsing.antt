@@ -2,7 +2,7 @@
 use Rattle.std.proofs.Common.{◌≡◌, ℕ, ◌+◌, List, [], ◌∷◌, ◌++◌, length, refl, sym, ap, subst, Some, None, Ok, Err, append_assoc, arith, length-append}
 use Rattle.std.specs.Prelude.{Option, Result}
 use Rattle.zv_tool.specs.Input.{words, commands, command_of_words, command_and, parse_input}
-use Rattle.zv_tool.specs.Parser.{after_all, parsed_with}
+use Rattle.zv_tool.specs.Parser.{after_all, outcome_with}
 use Rattle.zv_tool.specs.declared.command.Command.{Command}
 use Rattle.zv_tool.specs.declared.parser.Parser.{Parser}
 
@@ -26,4 +26,4 @@ abbrev pub Parses : Option (List ℕ) → Option (List ℕ) → Parser → ℕ �
 Parses None now parser room = Unit
 Parses (Some input) None parser room = ⊥
 Parses (Some input) (Some left) parser room =
-    (parse_input input ≡ parsed_with parser left) × (length input + room ≡ 16777216 + length left)
+    (parse_input input ≡ outcome_with parser left) × (length input + room ≡ 16777216 + length left)

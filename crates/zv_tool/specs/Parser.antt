@@ -17,11 +17,11 @@ after_all cs (Ok ds) = Ok (cs ++ ds)
 after_all cs (Err n) = Err n
 
 -- what an input comes to, by what its lines so far say and by the lines after them
-abbrev pub joined : Parsed → List (List ℕ) → Result (List ℕ × List Command) ℕ
-joined Nothing rest = parse_lines rest
-joined (Good request) rest = image_and (Some request.image.items)
+abbrev pub outcome_of : Parsed → List (List ℕ) → Result (List ℕ × List Command) ℕ
+outcome_of Nothing rest = parse_lines rest
+outcome_of (Good request) rest = image_and (Some request.image.items)
     (after_all request.commands (commands (2 + length request.commands) rest))
-joined (Bad number) rest = Err number
+outcome_of (Bad number) rest = Err number
 
 -- how large the commands so far are
 abbrev pub size_of : Parsed → ℕ
@@ -34,8 +34,8 @@ abbrev pub Lacks : ℕ → List ℕ → Type 0
 Lacks byte text = All (λ b. is_byte byte b ≡ false) text
 
 -- what an input comes to, by a parser of its bytes so far and by the bytes after them
-abbrev pub parsed_with : Parser → List ℕ → Result (List ℕ × List Command) ℕ
-parsed_with parser rest = joined parser.parsed (lines (parser.tail.items ++ rest))
+abbrev pub outcome_with : Parser → List ℕ → Result (List ℕ × List Command) ℕ
+outcome_with parser rest = outcome_of parser.parsed (lines (parser.tail.items ++ rest))
 
 -- how large the commands so far are, and the bytes that are kept
 abbrev pub kept_size : Parser → ℕ

@@ -4,7 +4,7 @@ ghost use Rattle.std.specs.Prelude.{IfErr, IfOk, IfSome, IsErrOf, OnOk, Ok, []};
 ghost use Rattle.std.specs.Io.KnownBytes.{IsAtEnd};
 ghost use Rattle.zv_tool.specs.Devices.{Rose};
 ghost use Rattle.zv_tool.specs.Input.{ReportsLine, lines, parse_input, parse_lines};
-ghost use Rattle.zv_tool.specs.Parser.{Lacks, joined, kept_size, parsed_with, size_of};
+ghost use Rattle.zv_tool.specs.Parser.{Lacks, outcome_of, kept_size, outcome_with, size_of};
 
 use crate::commands::{Commands, MAX_COMMANDS};
 use crate::device::{Failed, Source};
@@ -28,7 +28,7 @@ pub(crate) enum Parsed {
 // What the first line says.
 fn parse_first(alloc: Global, line: &[u8]) -> Result<Parsed, NoMemory>
     ensures same { IfOk result (λ parsed. (rest : List (List ℕ))
-        → parse_lines (line.now ∷ rest) ≡ joined parsed rest) }
+        → parse_lines (line.now ∷ rest) ≡ outcome_of parsed rest) }
     ensures empty { IfOk result (λ parsed. size_of parsed ≡ 0) }
 {
     match read_field(alloc, line)? {
@@ -44,7 +44,7 @@ fn parse_first(alloc: Global, line: &[u8]) -> Result<Parsed, NoMemory>
 fn add_line(alloc: Global, parsed: &mut Parsed, line: &[u8]) -> Result<(), NoMemory>
     requires { size_of parsed.old + length line.now ≤ MAX_COMMANDS }
     ensures same { OnOk result ((rest : List (List ℕ))
-        → joined parsed.old (line.now ∷ rest) ≡ joined parsed.new rest) }
+        → outcome_of parsed.old (line.now ∷ rest) ≡ outcome_of parsed.new rest) }
     ensures fits { OnOk result (size_of parsed.new ≤ size_of parsed.old + length line.now) }
 {
     match parsed {
@@ -62,8 +62,8 @@ fn add_line(alloc: Global, parsed: &mut Parsed, line: &[u8]) -> Result<(), NoMem
 fn add_lines<'t>(alloc: Global, parsed: &mut Parsed, text: &'t [u8]) -> Result<&'t [u8], NoMemory>
     requires { size_of parsed.old + length text.now ≤ MAX_COMMANDS }
     ensures same { IfOk result (λ tail. (rest : List ℕ)
-        → joined parsed.old (lines (text.now ++ rest))
-        ≡ joined parsed.new (lines (tail.now ++ rest))) }
+        → outcome_of parsed.old (lines (text.now ++ rest))
+        ≡ outcome_of parsed.new (lines (tail.now ++ rest))) }
     ensures partial { IfOk result (λ tail. Lacks 10 tail.now) }
     ensures fits { IfOk result (λ tail. size_of parsed.new + length tail.now
         ≤ size_of parsed.old + length text.now) }
@@ -83,7 +83,7 @@ fn add_lines<'t>(alloc: Global, parsed: &mut Parsed, text: &'t [u8]) -> Result<&
 fn add_last(alloc: Global, parsed: &mut Parsed, line: &[u8]) -> Result<(), NoMemory>
     requires partial { Lacks 10 line.now }
     requires room { size_of parsed.old + length line.now ≤ MAX_COMMANDS }
-    ensures { OnOk result (joined parsed.old (lines line.now) ≡ joined parsed.new []) }
+    ensures { OnOk result (outcome_of parsed.old (lines line.now) ≡ outcome_of parsed.new []) }
 {
     if line.is_empty() {
         return Ok(());
@@ -103,7 +103,7 @@ impl Parser {
     /// An input of which nothing came.
     #[tactic(auto, unfolding(crate::specs::Input::parse_input))]
     fn new(alloc: Global) -> Parser
-        ensures same { (rest : List ℕ) → parse_input rest ≡ parsed_with result rest }
+        ensures same { (rest : List ℕ) → parse_input rest ≡ outcome_with result rest }
         ensures partial { Lacks 10 result.tail.items }
         ensures empty { kept_size result ≡ 0 }
     {
@@ -118,7 +118,7 @@ impl Parser {
         requires partial { Lacks 10 self.old.tail.items }
         requires room { kept_size self.old + length piece.now ≤ MAX_COMMANDS }
         ensures same { OnOk result ((rest : List ℕ)
-            → parsed_with self.old (piece.now ++ rest) ≡ parsed_with self.new rest) }
+            → outcome_with self.old (piece.now ++ rest) ≡ outcome_with self.new rest) }
         ensures partial { OnOk result (Lacks 10 self.new.tail.items) }
         ensures fits { OnOk result (kept_size self.new ≤ kept_size self.old + length piece.now) }
     {
@@ -139,8 +139,8 @@ impl Parser {
     fn finish(self, alloc: Global) -> Result<Request, InputError>
         requires partial { Lacks 10 self.tail.items }
         requires room { kept_size self ≤ MAX_COMMANDS }
-        ensures ok { IfOk result (λ r. parsed_with self [] ≡ Ok (r.image.items, r.commands)) }
-        ensures err { IfErr result (ReportsLine (parsed_with self [])) }
+        ensures ok { IfOk result (λ r. outcome_with self [] ≡ Ok (r.image.items, r.commands)) }
+        ensures err { IfErr result (ReportsLine (outcome_with self [])) }
     {
         let Parser { mut parsed, tail } = self;
         add_last(alloc, &mut parsed, &tail)?;

@@ -1,6 +1,6 @@
 use Rattle.std.proofs.Common.{rules, ◌∙◌, ap, []}
 use Rattle.std.proofs.lemmas.Result.{on_ok_weaker}
-use Rattle.zv_tool.specs.Parser.{joined}
+use Rattle.zv_tool.specs.Parser.{outcome_of}
 use Rattle.zv_tool.proofs.Cutting.{last_line}
 use Rattle.zv_tool.proofs.parser.add_last.Goals as goal
 
@@ -8,4 +8,4 @@ pub returns : goal.returns
 returns c =
     let line = c.args.line.now in
     let first = last_line line c.requires.partial (search rules) in
-    on_ok_weaker c.add_line.result (λ same. ap (joined c.args.parsed.now) first ∙ same []) c.add_line.ensures.same
+    on_ok_weaker c.add_line.result (λ same. ap (outcome_of c.args.parsed.now) first ∙ same []) c.add_line.ensures.same

@@ -2,7 +2,7 @@ use Rattle.std.proofs.Common.{◌≡◌, ◌∷◌, ◌++◌, [], ◌∙◌, ap,
 use Rattle.std.proofs.lemmas.List.Sums.{sum_by_push}
 use Rattle.zv_tool.specs.Commands.{total_size, command_size}
 use Rattle.zv_tool.specs.Input.{words, command_of_words, image_and}
-use Rattle.zv_tool.specs.Parser.{joined, size_of}
+use Rattle.zv_tool.specs.Parser.{outcome_of, size_of}
 use Rattle.zv_tool.proofs.Fields.{command_fits}
 use Rattle.zv_tool.proofs.Parsing.{one_more_command}
 use Rattle.zv_tool.proofs.parser.add_line.Goals as goal
@@ -24,7 +24,7 @@ returns-in_ok-keep-in-Some c =
     let before = ap size_of c.in-Good.is in
     record {
       same = λ rest.
-          ap (λ parsed. joined parsed (line ∷ rest)) c.in-Good.is
+          ap (λ parsed. outcome_of parsed (line ∷ rest)) c.in-Good.is
           ∙ rw grown (ap (image_and (Some request.image.items)) (one_more_command request.commands command line rest said));
       fits = omega (arith, command_fits line command said);
     }

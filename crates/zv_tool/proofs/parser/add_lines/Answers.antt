@@ -1,7 +1,7 @@
 use Rattle.std.proofs.Common.{◌≡◌, ◌++◌, ◌∷◌, [], List, ℕ, length, ◌∙◌, ap, arith, rules, length-append}
 use Rattle.std.proofs.lemmas.List.Elements.{All-nil}
 use Rattle.zv_tool.specs.Input.{lines}
-use Rattle.zv_tool.specs.Parser.{joined}
+use Rattle.zv_tool.specs.Parser.{outcome_of}
 use Rattle.zv_tool.proofs.Cutting.{line_of_parts}
 use Rattle.zv_tool.proofs.parser.add_lines.Goals as goal
 
@@ -16,6 +16,6 @@ loop-after-preserved c =
     let added = c.in_ok-add_line.ensures in
     record {
       same = λ after.
-          c.loop-after.invariant.same after ∙ ap (joined c.loop-after.parsed) (first after) ∙ added.same (lines (left ++ after));
+          c.loop-after.invariant.same after ∙ ap (outcome_of c.loop-after.parsed) (first after) ∙ added.same (lines (left ++ after));
       fits = omega (arith, length-append line (10 ∷ left), c.loop-after.invariant.fits, added.fits);
     }

@@ -1,12 +1,12 @@
 use Rattle.std.proofs.Common.{◌≡◌, ◌+◌, ◌≤◌, ◌++◌, List, ℕ, length}
 use Rattle.zv_tool.specs.Input.{lines}
-use Rattle.zv_tool.specs.Parser.{joined, size_of}
+use Rattle.zv_tool.specs.Parser.{outcome_of, size_of}
 use Rattle.zv_tool.proofs.parser.add_lines.Given as goal
 
 -- what the lines so far say, and those that are left
 abbrev pub invariant-loop-after : goal.invariant-loop-after
 invariant-loop-after l = record {
-  same : (after : List ℕ) → joined l.initial.parsed (lines (l.fn.text ++ after)) ≡ joined l.parsed (lines (l.rest ++ after));
+  same : (after : List ℕ) → outcome_of l.initial.parsed (lines (l.fn.text ++ after)) ≡ outcome_of l.parsed (lines (l.rest ++ after));
   fits : size_of l.parsed + length l.rest ≤ size_of l.initial.parsed + length l.fn.text;
 }
 

@@ -1,6 +1,6 @@
 use Rattle.std.proofs.Common.{◌≡◌, ◌∷◌, ◌++◌, ◌∙◌, ap, rules}
 use Rattle.zv_tool.specs.Input.{lines}
-use Rattle.zv_tool.specs.Parser.{joined}
+use Rattle.zv_tool.specs.Parser.{outcome_of}
 use Rattle.zv_tool.proofs.Cutting.{line_of_parts}
 use Rattle.zv_tool.proofs.parser.Parser.take.Goals as goal
 
@@ -16,4 +16,4 @@ returns-in_ok-self-clause-same c =
     λ after.
     let first = line_of_parts tail piece more rest after c.requires.partial c.split_at_byte.ensures.before cut in
     let one = rw whole at (c.in_ok-add_line.ensures.same (lines (rest ++ after))) in
-    ap (joined c.args.self.now.parsed) first ∙ one ∙ rw kept (c.in_ok-tail.ensures.same after)
+    ap (outcome_of c.args.self.now.parsed) first ∙ one ∙ rw kept (c.in_ok-tail.ensures.same after)
