@@ -1,14 +1,19 @@
--- The pieces of a text: its first piece, its lines, and how many words it has.
-use Rattle.std.proofs.Common.{◌≡◌, ℕ, ◌+◌, ◌-◌, ◌<◌, ◌≤◌, List, [], ◌∷◌, ◌++◌, length, get_or, take, drop, Bool, true, false, refl, sym, ap, ◌∙◌, subst, arith, None, append_assoc, add-one}
-use Rattle.std.specs.List.{slice_split}
+-- The pieces of a text: its first piece, its lines and its words.
+use Rattle.std.proofs.Common.{◌≡◌, ℕ, ◌+◌, ◌-◌, ◌<◌, ◌≤◌, ◌==◌, List, [], ◌∷◌, ◌++◌, length, get_or, take, drop, Bool, true, false, refl, sym, ap, ◌∙◌, subst}
+use Rattle.std.proofs.Common.{arith, Some, None, append_assoc, add-one}
+use Rattle.std.specs.Prelude.{Option, if◌then◌else◌}
+use Rattle.std.specs.List.{onto_first, slice_split}
+use Rattle.std.specs.Option.{option_and_then}
+use Rattle.std.specs.Str.{is_utf8}
 use Rattle.std.proofs.Math.Seq.{split_at}
 use Rattle.std.proofs.lemmas.Bool.{eqb-true}
-use Rattle.std.proofs.lemmas.List.{take_rest, get_or-take, length-take}
+use Rattle.std.proofs.lemmas.List.{take_all, take-append-drop, take_rest, get_or-take, length-take}
 use Rattle.std.proofs.lemmas.List.Elements.{All-append, All-from_get_or}
 use Rattle.std.proofs.lemmas.List.Splits.{slice_split_at, slice_split_none, length-slice_split}
 use Rattle.memchr.specs.Find.{is_byte}
-use Rattle.zv_tool.specs.Input.{unless_empty, without_empty_last, lines, words, one_word}
-use Rattle.zv_tool.specs.Parser.{Lacks}
+use Rattle.zv_tool.specs.Digits.{◌>>=◌, bytes_of_digits, content_of}
+use Rattle.zv_tool.specs.Input.{unless_empty, without_empty_last, field, key, lines, words}
+use Rattle.zv_tool.specs.Parser.{Lacks, after_mark, first_of, words_after}
 
 -- a test that is not true is false
 is_false : (t : Bool) → (t ≡ true → ⊥) → t ≡ false
@@ -60,10 +65,58 @@ last_line line lacks some = ap without_empty_last (slice_split_none (is_byte 10)
     by [] some = absurd (omega arith)
     by (b ∷ rest) some = refl
 
--- two words or more are not one
-pub no_one_word : (text a rest : List ℕ) → words text ≡ a ∷ words rest → one_word (words text) ≡ None
-no_one_word text a rest split = ap one_word split ∙ by (words rest) (omega (arith, length-slice_split (is_byte 32) rest))
+-- ---- words
+
+-- a text whose first word ends where it does
+pub last_word : (text : List ℕ) (len : ℕ) → length text ≤ len → Lacks 32 (take len text) → words text ≡ take len text ∷ []
+last_word text len all lacks =
+    rw (take_all len text all) (slice_split_none (is_byte 32) text (subst (Lacks 32) (take_all len text all) lacks))
+
+-- or at a space
+pub word_and : (text : List ℕ) (len : ℕ) → len < length text → get_or text len 0 ≡ 32 → Lacks 32 (take len text)
+    → words text ≡ take len text ∷ words (take (length text - (len + 1)) (drop (len + 1) text))
+word_and text len within space lacks =
+    ap words (cut_around 32 text len within (ap (is_byte 32) space)) ∙ slice_split_at (is_byte 32) (take len text) 32 _ lacks refl
+
+-- what a reading of fields by their digits gives at the first word of a text
+module _ {A : Type 0} (read inner : List ℕ → Option A) (is : (word : List ℕ) → read word ≡ (after_mark word >>= inner)) where
+  choose : (b : ℕ) (rest w : List ℕ) (ws : List (List ℕ)) (space mark : Bool) → (b == 32) ≡ space → (b == 120) ≡ mark → words rest ≡ w ∷ ws
+      → first_of read (if space then [] ∷ w ∷ ws else (b ∷ w) ∷ ws) ≡ ((if mark then Some rest else None) >>= (λ d. first_of inner (words d)))
+  choose b rest w ws true true s m whole = absurd (omega (arith, eqb-true b 32 s, eqb-true b 120 m))
+  choose b rest w ws true false s m whole = rw (is []) refl
+  choose b rest w ws false true s m whole = rw (is (b ∷ w), m, whole) refl
+  choose b rest w ws false false s m whole = rw (is (b ∷ w), m) refl
+
+  first_marked : (text : List ℕ) → first_of read (words text) ≡ (after_mark text >>= (λ d. first_of inner (words d)))
+  first_marked [] = rw (is []) refl
+  first_marked (b ∷ rest) = by (words rest) refl (omega (arith, length-slice_split (is_byte 32) rest))
+    where
+      by : (ws : List (List ℕ)) → words rest ≡ ws → 0 < length ws
+          → first_of read (if b == 32 then [] ∷ ws else onto_first b ws) ≡ (after_mark (b ∷ rest) >>= (λ d. first_of inner (words d)))
+      by [] whole some = absurd (omega arith)
+      by (w ∷ ws) whole some = choose b rest w ws (b == 32) (b == 120) refl refl whole
+
+  first_field : (text : Option (List ℕ)) (digits : List ℕ) → Some digits ≡ option_and_then after_mark text
+      → first_of read (words_after text) ≡ first_of inner (words digits)
+  first_field None digits marked = cc
+  first_field (Some text) digits marked = first_marked text ∙ ap (λ o. o >>= (λ d. first_of inner (words d))) (sym marked)
+
+key_digits : (word : List ℕ) → key word ≡ (after_mark word >>= content_of 1)
+key_digits [] = refl
+key_digits (b ∷ digits) = elim (b == 120) as (λ t. ((if t then bytes_of_digits digits else None) >>= (λ bytes. if is_utf8 bytes then Some bytes else None)) ≡ ((if t then Some digits else None) >>= content_of 1)) [ true ↦ refl | false ↦ refl ]
+
+field_digits : (word : List ℕ) → field word ≡ (after_mark word >>= content_of 0)
+field_digits [] = refl
+field_digits (b ∷ digits) = elim (b == 120) as (λ t. (if t then bytes_of_digits digits else None) ≡ ((if t then Some digits else None) >>= content_of 0)) [ true ↦ by (bytes_of_digits digits) | false ↦ refl ]
   where
-    by : (others : List (List ℕ)) → 0 < length others → one_word (a ∷ others) ≡ None
-    by [] some = absurd (omega arith)
-    by (b ∷ others) some = refl
+    by : (o : Option (List ℕ)) → o ≡ (o >>= (λ bytes. Some bytes))
+    by None = refl
+    by (Some bytes) = refl
+
+pub first_key : (text : Option (List ℕ)) (digits : List ℕ) → Some digits ≡ option_and_then after_mark text
+    → first_of key (words_after text) ≡ first_of (content_of 1) (words digits)
+first_key = first_field key (content_of 1) key_digits
+
+pub first_value : (text : Option (List ℕ)) (digits : List ℕ) → Some digits ≡ option_and_then after_mark text
+    → first_of field (words_after text) ≡ first_of (content_of 0) (words digits)
+first_value = first_field field (content_of 0) field_digits

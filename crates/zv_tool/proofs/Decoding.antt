@@ -1,16 +1,19 @@
 -- Hex digits that are read by a table, pair after pair.
-use Rattle.std.proofs.Common.{◌≡◌, ℕ, zero, suc, ◌+◌, ◌*◌, ◌%◌, ◌<◌, ◌≤◌, ◌==◌, Bool, true, false, ◌&&◌, List, [], ◌∷◌, ◌++◌, replicate}
-use Rattle.std.proofs.Common.{take, drop, slice_index, slice_set, length, inl, inr, Option, Some, None, Ok, Err, refl, ap, ◌∙◌, arith}
-use Rattle.std.specs.Prelude.{if◌then◌else◌, nat_lt, unwrap_or}
+use Rattle.std.proofs.Common.{◌≡◌, ◌⊎◌, ℕ, zero, suc, ◌+◌, ◌*◌, ◌%◌, ◌<◌, ◌≤◌, ◌==◌, Bool, true, false, ◌&&◌, List, [], ◌∷◌, ◌++◌, replicate}
+use Rattle.std.proofs.Common.{take, drop, slice_index, slice_set, length, inl, inr, Option, Some, None, Ok, Err, refl, sym, ap, ◌∙◌, arith, append_assoc}
+use Rattle.std.specs.Prelude.{Result, if◌then◌else◌, unwrap_or}
 use Rattle.std.specs.Result.{result_ok}
 use Rattle.std.proofs.lemmas.Bool.{and_parts, cases_lt, eqb-true}
 use Rattle.std.proofs.lemmas.Bool.Decides.{nat_tests}
-use Rattle.hex.specs.Hex.{decode_pairs, hex_digit_value, pair_value}
+use Rattle.std.proofs.lemmas.List.{append-nil, length-take, take-append-drop, take_more, take_more_set}
+use Rattle.memchr.specs.Find.{is_byte}
+use Rattle.hex.specs.Hex.{decode_of, decode_pairs, hex_digit_value, is_hex_digit, pair_value}
 use Rattle.hex.specs.declared.error.FromHexError.{FromHexError}
-use Rattle.hex.specs.declared.error.FromHexError.TheVariants.{InvalidHexCharacter}
-use Rattle.hex.proofs.HexLemmas.{decode_of-even}
-use Rattle.hex.proofs.Pairs.{decode_done, decode_err, decode_step, prepend}
+use Rattle.hex.specs.declared.error.FromHexError.TheVariants.{InvalidHexCharacter, OddLength}
+use Rattle.hex.proofs.HexLemmas.{decode_of-even, decode_of-ok}
+use Rattle.hex.proofs.Pairs.{cons_byte, decode_pairs-err_pair, decode_pairs-ok_pair, prepend, prepend-cons_byte}
 use Rattle.zv_tool.specs.Digits.{bytes_of_digits}
+use Rattle.zv_tool.specs.Parser.{Lacks}
 
 -- ---- the table
 
@@ -42,47 +45,82 @@ values =
 
 -- ---- the loop
 
--- the bytes of the pairs before place i stand in front, or a digit before it is none
-abbrev pub IsDecoded : Bool → ℕ → List ℕ → List ℕ → Type 0
-IsDecoded true i digits bytes = decode_pairs 0 digits ≡ prepend (take i bytes) (decode_pairs (2 * i) (drop (2 * i) digits))
-IsDecoded false i digits bytes = result_ok (decode_pairs 0 digits) ≡ None
+-- the digits before pair i stand for the bytes in front, whatever follows them
+abbrev pub IsRead : ℕ → List ℕ → List ℕ → Type 0
+IsRead i text place = (rest : List ℕ) → decode_pairs 0 (take (2 * i) text ++ rest) ≡ prepend (take i place) (decode_pairs (2 * i) rest)
 
-module _ (digits bytes : List ℕ) (i : ℕ) (fits : 2 * i + 1 < length digits) (room : i < length bytes) where
+-- what its value in the table says of a digit
+digit_is : (c : ℕ) → digit_or_16 c ≤ 15 → hex_digit_value c ≡ Some (digit_or_16 c)
+digit_is c small = by (hex_digit_value c) small
+  where
+    by : (o : Option ℕ) → unwrap_or o 16 ≤ 15 → o ≡ Some (unwrap_or o 16)
+    by (Some v) small = refl
+    by None small = absurd (omega (arith, small))
+
+no_digit : (c : ℕ) → 15 < digit_or_16 c → hex_digit_value c ≡ None
+no_digit c large = by (hex_digit_value c) refl large
+  where
+    by : (o : Option ℕ) → hex_digit_value c ≡ o → 15 < unwrap_or o 16 → o ≡ None
+    by None is large = refl
+    by (Some v) is large = let small : v < 16 = grind arith in absurd (omega (arith, small, large))
+
+module _ (text place : List ℕ) (i : ℕ) (fits : 2 * i + 1 < length text) (was : IsRead i text place) where
   abbrev high : ℕ
-  high = slice_index digits (2 * i)
+  high = slice_index text (2 * i)
 
   abbrev low : ℕ
-  low = slice_index digits (2 * i + 1)
+  low = slice_index text (2 * i + 1)
 
-  small : (c v : ℕ) → hex_digit_value c ≡ Some v → v < 16
-  small c v is = grind (arith)
+  next_pair : (rest : List ℕ) → take (2 * (i + 1)) text ++ rest ≡ take (2 * i) text ++ (high ∷ low ∷ rest)
+  next_pair rest =
+      let two : 2 * (i + 1) ≡ 2 * i + 1 + 1 = omega arith in
+      let first : take (2 * i + 1) text ≡ take (2 * i) text ++ high ∷ [] = take_more text (2 * i) 0 (omega arith) in
+      let second : take (2 * i + 1 + 1) text ≡ take (2 * i + 1) text ++ low ∷ [] = take_more text (2 * i + 1) 0 fits in
+      rw (two, second, first) (append_assoc (take (2 * i) text ++ high ∷ []) (low ∷ []) rest ∙ append_assoc (take (2 * i) text) (high ∷ []) (low ∷ rest))
 
-  refused : (e : FromHexError) → pair_value high low (2 * i) ≡ Err e → IsDecoded true i digits bytes → result_ok (decode_pairs 0 digits) ≡ None
-  refused e bad was = ap result_ok (decode_err digits bytes i e fits bad was)
+  -- two digits
+  pub read_more : (v : ℕ) → i < length place → digit_or_16 high ≤ 15 → digit_or_16 low ≤ 15 → v ≡ digit_or_16 high * 16 + digit_or_16 low
+      → IsRead (i + 1) text (slice_set place i v)
+  read_more v room small_high small_low byte rest =
+      let two : 2 * i + 2 ≡ 2 * (i + 1) = omega arith in
+      let pair : pair_value high low (2 * i) ≡ Ok v = rw (digit_is high small_high, digit_is low small_low, byte) refl in
+      ap (decode_pairs 0) (next_pair rest) ∙ was (high ∷ low ∷ rest)
+      ∙ ap (prepend (take i place)) (decode_pairs-ok_pair (2 * i) high low v rest pair ∙ ap (λ (k : ℕ). cons_byte v (decode_pairs k rest)) two)
+      ∙ prepend-cons_byte (take i place) v _
+      ∙ ap (λ (f : List ℕ). prepend f (decode_pairs (2 * (i + 1)) rest)) (sym (take_more_set place i v room))
 
-  by : (are : Bool) (h l : Option ℕ) (v : ℕ) → hex_digit_value high ≡ h → hex_digit_value low ≡ l
-      → (unwrap_or h 16 < 16 → unwrap_or l 16 < 16 → v ≡ unwrap_or h 16 * 16 + unwrap_or l 16) → IsDecoded are i digits bytes
-      → IsDecoded (are && nat_lt (unwrap_or h 16) 16 && nat_lt (unwrap_or l 16) 16) (i + 1) digits (slice_set bytes i v)
-  by false h l v is_h is_l byte was = was
-  by true None l v is_h is_l byte was = refused (InvalidHexCharacter high (2 * i)) (rw is_h refl) was
-  by true (Some h) None v is_h is_l byte was =
-      let test : nat_lt h 16 ≡ true = grind (arith, nat_tests, small high h is_h) in
-      rw test (refused (InvalidHexCharacter low (2 * i + 1)) (rw (is_h, is_l) refl) was)
-  by true (Some h) (Some l) v is_h is_l byte was =
-      let a = small high h is_h in
-      let b = small low l is_l in
-      let test_h : nat_lt h 16 ≡ true = grind (arith, nat_tests, a) in
-      let test_l : nat_lt l 16 ≡ true = grind (arith, nat_tests, b) in
-      let pair : pair_value high low (2 * i) ≡ Ok v = rw (is_h, is_l, byte a b) refl in
-      rw (test_h, test_l) (decode_step digits bytes i v fits room pair was)
+  -- or not
+  refused : (e : FromHexError) → pair_value high low (2 * i) ≡ Err e → bytes_of_digits text ≡ None
+  refused e bad =
+      let rest = drop (2 * (i + 1)) text in
+      let whole : text ≡ take (2 * i) text ++ (high ∷ low ∷ rest) = sym (take-append-drop (2 * (i + 1)) text) ∙ next_pair rest in
+      let error : decode_pairs 0 text ≡ Err e =
+      ap (decode_pairs 0) whole ∙ was (high ∷ low ∷ rest) ∙ ap (prepend (take i place)) (decode_pairs-err_pair (2 * i) high low e rest bad) in
+      elim (length text % 2 == 1) as (λ t. result_ok (if t then Err OddLength else decode_pairs 0 text) ≡ None) [ true ↦ refl | false ↦ ap result_ok error ]
 
-  pub decoded_more : (are : Bool) (h l v : ℕ) → h ≡ digit_or_16 high → l ≡ digit_or_16 low → (h < 16 → l < 16 → v ≡ h * 16 + l) → IsDecoded are i digits bytes
-      → IsDecoded (are && nat_lt h 16 && nat_lt l 16) (i + 1) digits (slice_set bytes i v)
-  decoded_more are h l v is_h is_l byte was =
-      rw (is_h, is_l) (by are (hex_digit_value high) (hex_digit_value low) v refl refl (rw (is_h, is_l) at byte) was)
+  pub stopped : (15 < digit_or_16 high) ⊎ (15 < digit_or_16 low) → bytes_of_digits text ≡ None
+  stopped (inl large) = refused (InvalidHexCharacter high (2 * i)) (rw (no_digit high large) refl)
+  stopped (inr large) = by (hex_digit_value high) refl
+    where
+      by : (o : Option ℕ) → hex_digit_value high ≡ o → bytes_of_digits text ≡ None
+      by None is = refused (InvalidHexCharacter high (2 * i)) (rw is refl)
+      by (Some h) is = refused (InvalidHexCharacter low (2 * i + 1)) (rw (is, no_digit low large) refl)
 
--- every pair is decoded
-pub decoded_all : (digits bytes : List ℕ) (i : ℕ) (are : Bool) → length digits % 2 ≡ 0 → length bytes ≤ i → length digits ≤ 2 * i
-    → IsDecoded are i digits bytes → bytes_of_digits digits ≡ (if are then Some bytes else None)
-decoded_all digits bytes i true even h fits was = ap result_ok (decode_of-even digits even ∙ decode_done digits bytes i h fits was)
-decoded_all digits bytes i false even h fits was = ap result_ok (decode_of-even digits even) ∙ was
+-- what is read so far
+pub read_so_far : (text place : List ℕ) (n : ℕ) → 2 * n ≤ length text → IsRead n text place → bytes_of_digits (take (2 * n) text) ≡ Some (take n place)
+unfolding decode_pairs
+read_so_far text place n within was =
+    let even : length (take (2 * n) text) % 2 ≡ 0 = omega (arith, length-take (2 * n) text) in
+    ap result_ok (decode_of-even (take (2 * n) text) even ∙ ap (decode_pairs 0) (sym (append-nil (take (2 * n) text))) ∙ was [])
+    ∙ ap Some (append-nil (take n place))
+
+-- digits are no spaces
+pub lacks_space : (digits bytes : List ℕ) → bytes_of_digits digits ≡ Some bytes → Lacks 32 digits
+lacks_space digits bytes is = by (decode_of digits) refl is
+  where
+    no_space : (c : ℕ) → is_hex_digit c ≡ true → is_byte 32 c ≡ false
+    no_space c digit = grind (arith, nat_tests)
+
+    by : (r : Result (List ℕ) FromHexError) → decode_of digits ≡ r → result_ok r ≡ Some bytes → Lacks 32 digits
+    by (Ok found) ok same = λ k d lt. no_space _ ((decode_of-ok digits found ok).1 k d lt)
+    by (Err e) err same = cc

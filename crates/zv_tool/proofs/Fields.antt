@@ -1,11 +1,13 @@
 -- What a line's words say of its command: it is no larger than they are, and its keys are texts.
-use Rattle.std.proofs.Common.{◌≡◌, ℕ, suc, ◌+◌, ◌*◌, ◌≤◌, ◌==◌, List, [], ◌∷◌, length, Bool, true, false, refl, arith, Some, None, Ok, Err, codes}
+use Rattle.std.proofs.Common.{◌≡◌, ℕ, suc, ◌+◌, ◌*◌, ◌<◌, ◌≤◌, ◌==◌, List, [], ◌∷◌, length, Bool, true, false, refl, arith, Some, None, Ok, Err, codes}
 use Rattle.std.specs.Prelude.{IfSome, Result, bytes_eq, if◌then◌else◌, sum_by}
 use Rattle.std.specs.List.{onto_first}
 use Rattle.std.specs.Result.{result_ok}
 use Rattle.std.specs.Str.{is_utf8}
 use Rattle.std.specs.declared.option.Option.{Option}
+use Rattle.std.proofs.lemmas.List.Splits.{length-slice_split}
 use Rattle.std.proofs.lemmas.List.Sums.{sum_by-cons}
+use Rattle.memchr.specs.Find.{is_byte}
 use Rattle.hex.specs.Hex.{decode_of}
 use Rattle.hex.proofs.HexLemmas.{decode_of-ok}
 use Rattle.zv_ule.specs.Kinds.{text_fault}
@@ -13,8 +15,9 @@ use Rattle.zv_tool.specs.declared.command.Command.{Command}
 use Rattle.zv_tool.specs.declared.command.Command.TheVariants.{Get, Put, Del, Row}
 use Rattle.zv_tool.specs.Commands.{command_size}
 use Rattle.zv_tool.specs.Digits.{◌>>=◌, bytes_of_digits}
-use Rattle.zv_tool.specs.Input.{words, field, key, get, put, del, row, command_of_words}
+use Rattle.zv_tool.specs.Input.{words, field, key, get, put, del, row, two_words, command_of_words}
 use Rattle.zv_tool.specs.Laws.{OfTexts}
+use Rattle.zv_tool.specs.Parser.{first_keys, first_of, if_last}
 
 -- ---- options
 
@@ -123,3 +126,38 @@ pub command_fits : (line : List ℕ) (c : Command) → command_of_words (words l
 command_fits line c said =
     let is : IfSome (Some c) (IsCommandOf (words line)) = rw said at (command_is (words line)) in
     omega (arith, is.0, words_size line)
+
+-- ---- word by word
+
+-- a command before other words
+pub not_last : (c : Command) (text : List ℕ) → if_last c (words text) ≡ None
+not_last c text = by (words text) (omega (arith, length-slice_split (is_byte 32) text))
+  where
+    by : (ws : List (List ℕ)) → 0 < length ws → if_last c ws ≡ None
+    by [] some = absurd (omega (arith, some))
+    by (w ∷ ws) some = refl
+
+two_keys : (C : List ℕ → List ℕ → Command) (ws : List (List ℕ))
+    → (two_words ws >>= (λ p. key p.0 >>= (λ k. key p.1 >>= (λ l. Some (C k l))))) ≡ (first_keys ws >>= (λ t. if_last (C t.0 t.1) t.2))
+two_keys C [] = refl
+two_keys C (a ∷ []) = grind arith
+two_keys C (a ∷ b ∷ []) = grind arith
+two_keys C (a ∷ b ∷ c ∷ rest) = grind arith
+
+pub get_by_keys : (ws : List (List ℕ)) → get ws ≡ (first_keys ws >>= (λ t. if_last (Get t.0 t.1) t.2))
+get_by_keys ws = two_keys Get ws
+
+pub del_by_keys : (ws : List (List ℕ)) → del ws ≡ (first_keys ws >>= (λ t. if_last (Del t.0 t.1) t.2))
+del_by_keys ws = two_keys Del ws
+
+pub put_by_keys : (ws : List (List ℕ)) → put ws ≡ (first_keys ws >>= (λ t. first_of field t.2 >>= (λ v. if_last (Put t.0 t.1 v.0) v.1)))
+put_by_keys [] = refl
+put_by_keys (a ∷ []) = grind arith
+put_by_keys (a ∷ b ∷ []) = grind arith
+put_by_keys (a ∷ b ∷ c ∷ []) = grind arith
+put_by_keys (a ∷ b ∷ c ∷ d ∷ rest) = grind arith
+
+pub row_by_key : (ws : List (List ℕ)) → row ws ≡ (first_of key ws >>= (λ k. if_last (Row k.0) k.1))
+row_by_key [] = refl
+row_by_key (a ∷ []) = grind arith
+row_by_key (a ∷ b ∷ rest) = grind arith

@@ -1,6 +1,6 @@
 // Hex digits, read by a table.
-ghost use Rattle.std.specs.Prelude.{◌≡◌, ◌*◌, ◌/◌, length, IfOk, MatchOption, Some, None};
-ghost use Rattle.std.specs.Prelude.{if◌then◌else◌, unwrap_or};
+ghost use Rattle.std.specs.Prelude.{◌≡◌, ◌+◌, ◌*◌, ◌/◌, ◌<◌, ◌≤◌, length, take, IfOk, MatchOption};
+ghost use Rattle.std.specs.Prelude.{Some, None, if◌then◌else◌, unwrap_or};
 ghost use Rattle.hex.specs.Hex.{encode_lower, hex_digit_value};
 ghost use Rattle.zv_tool.specs.Digits.{bytes_of_digits};
 
@@ -40,24 +40,34 @@ fn value_of(digit: u8) -> u8
     VALUES[digit as usize]
 }
 
-/// Writes the bytes that hex digits stand for, and says whether they stand for any. It tests each
-/// digit without a branch, since digits and letters come in no order that a processor could guess.
+/// Writes the bytes that the hex digits at the front of a text stand for, and gives how many they
+/// are: up to the first two that aren't digits, or as many as there is place for.
+#[inline(always)]
+pub(crate) fn decode_front(text: &[u8], place: &mut [u8]) -> usize
+    ensures room { result ≤ length place.new }
+    ensures within { 2 * result ≤ length text.now }
+    ensures digits { bytes_of_digits (take (2 * result) text.now) ≡ Some (take result place.new) }
+    ensures stop { result < length place.new → 2 * result + 1 < length text.now
+        → bytes_of_digits text.now ≡ None }
+{
+    let pairs = (text.len() / 2).min(place.len());
+    'pairs: for i in 0..pairs {
+        let high = value_of(text[2 * i]);
+        let low = value_of(text[2 * i + 1]);
+        if high > 15 || low > 15 {
+            return i;
+        }
+        place[i] = high * 16 + low;
+    }
+    pairs
+}
+
+/// Writes the bytes that hex digits stand for, and says whether they stand for any.
 pub(crate) fn decode_to(digits: &[u8], bytes: &mut [u8]) -> bool
     requires { length bytes.old ≡ length digits.now / 2 }
     ensures { bytes_of_digits digits.now ≡ (if result then Some bytes.new else None) }
 {
-    if digits.len() % 2 != 0 {
-        return false;
-    }
-    let mut are_digits = true;
-    'pairs: for i in 0..bytes.len() {
-        let high = value_of(digits[2 * i]);
-        let low = value_of(digits[2 * i + 1]);
-        are_digits &= high < 16;
-        are_digits &= low < 16;
-        bytes[i] = high.wrapping_mul(16).wrapping_add(low);
-    }
-    are_digits
+    digits.len() % 2 == 0 && decode_front(digits, bytes) == bytes.len()
 }
 
 /// The bytes that hex digits stand for, or `None` where they stand for none.

@@ -4,7 +4,7 @@ ghost use Rattle.zv_tool.specs.Input.{three_words};
 ghost use Rattle.zv_tool.specs.Program.{form_of, is_edit, look_keys, look_of, names_form};
 
 use crate::command::KeyText;
-use crate::lines::read_key;
+use crate::field::read_key;
 use crate::words::Words;
 use std::alloc::Global;
 use zv_ule::NoMemory;

@@ -8,6 +8,7 @@ mod compact;
 mod device;
 mod digits;
 mod edit;
+mod field;
 mod form;
 mod input;
 pub mod laws;

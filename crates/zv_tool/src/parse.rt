@@ -1,11 +1,14 @@
 // Parses the lines of commands.
 ghost use Rattle.std.specs.Prelude.{◌≡◌, ◌+◌, ◌≤◌, [], ◌∷◌, ◌++◌, IfOk, OnOk};
+ghost use Rattle.std.specs.Option.{option_copied};
 ghost use Rattle.zv_tool.specs.Commands.{total_size, command_size};
-ghost use Rattle.zv_tool.specs.Input.{words, get, put, del, row, command_of, command_of_words};
+ghost use Rattle.zv_tool.specs.Input.{words, get, put, del, row, command_of_words};
+ghost use Rattle.zv_tool.specs.Parser.{if_last, words_after};
 
 use crate::command::Command;
 use crate::commands::{Commands, CommandsError, MAX_COMMANDS};
-use crate::lines::{cut_word, only_word, read_key, read_value, three_words, two_words};
+use crate::field::{cut_key, cut_keys, cut_value};
+use crate::lines::cut_word;
 use std::alloc::Global;
 use zv_ule::NoMemory;
 
@@ -36,74 +39,68 @@ pub(crate) struct Request {
     pub commands: Commands,
 }
 
-// A look-up, of which two keys are the fields.
-fn read_get(alloc: Global, fields: &[u8]) -> Result<Option<Command>, NoMemory>
-    ensures { IfOk result (λ command. command ≡ get (words fields.now)) }
+// A command, where no word follows its fields.
+fn if_last(command: Command, rest: Option<&[u8]>) -> Option<Command>
+    ensures { result ≡ if_last command (words_after (option_copied rest.entry)) }
 {
-    let Some((a, b)) = two_words(fields) else {
-        return Ok(None);
-    };
-    let Some(key0) = read_key(alloc, a)? else {
-        return Ok(None);
-    };
-    match read_key(alloc, b)? {
-        Some(key1) => Ok(Some(Command::Get { key0, key1 })),
-        None => Ok(None),
+    match rest {
+        None => Some(command),
+        Some(_) => None,
     }
+}
+
+// A look-up, of which two keys are the fields.
+#[tactic(auto, using(crate::proofs::Fields::get_by_keys))]
+fn read_get(alloc: Global, fields: Option<&[u8]>) -> Result<Option<Command>, NoMemory>
+    ensures { IfOk result (λ command. command ≡ get (words_after (option_copied fields.entry))) }
+{
+    let Some((key0, key1, rest)) = cut_keys(alloc, fields)? else {
+        return Ok(None);
+    };
+    Ok(if_last(Command::Get { key0, key1 }, rest))
 }
 
 // A value for a pair, of which two keys and the value are the fields.
-fn read_put(alloc: Global, fields: &[u8]) -> Result<Option<Command>, NoMemory>
-    ensures { IfOk result (λ command. command ≡ put (words fields.now)) }
+#[tactic(auto, using(crate::proofs::Fields::put_by_keys))]
+fn read_put(alloc: Global, fields: Option<&[u8]>) -> Result<Option<Command>, NoMemory>
+    ensures { IfOk result (λ command. command ≡ put (words_after (option_copied fields.entry))) }
 {
-    let Some((a, b, c)) = three_words(fields) else {
+    let Some((key0, key1, rest)) = cut_keys(alloc, fields)? else {
         return Ok(None);
     };
-    let Some(key0) = read_key(alloc, a)? else {
+    let Some((value, rest)) = cut_value(alloc, rest)? else {
         return Ok(None);
     };
-    let Some(key1) = read_key(alloc, b)? else {
-        return Ok(None);
-    };
-    match read_value(alloc, c)? {
-        Some(value) => Ok(Some(Command::Put { key0, key1, value })),
-        None => Ok(None),
-    }
+    Ok(if_last(Command::Put { key0, key1, value }, rest))
 }
 
 // A removal, of which two keys are the fields.
-fn read_del(alloc: Global, fields: &[u8]) -> Result<Option<Command>, NoMemory>
-    ensures { IfOk result (λ command. command ≡ del (words fields.now)) }
+#[tactic(auto, using(crate::proofs::Fields::del_by_keys))]
+fn read_del(alloc: Global, fields: Option<&[u8]>) -> Result<Option<Command>, NoMemory>
+    ensures { IfOk result (λ command. command ≡ del (words_after (option_copied fields.entry))) }
 {
-    let Some((a, b)) = two_words(fields) else {
+    let Some((key0, key1, rest)) = cut_keys(alloc, fields)? else {
         return Ok(None);
     };
-    let Some(key0) = read_key(alloc, a)? else {
-        return Ok(None);
-    };
-    match read_key(alloc, b)? {
-        Some(key1) => Ok(Some(Command::Del { key0, key1 })),
-        None => Ok(None),
-    }
+    Ok(if_last(Command::Del { key0, key1 }, rest))
 }
 
 // The pairs of a row, of which a key is the field.
-fn read_row(alloc: Global, fields: &[u8]) -> Result<Option<Command>, NoMemory>
-    ensures { IfOk result (λ command. command ≡ row (words fields.now)) }
+#[tactic(auto, using(crate::proofs::Fields::row_by_key))]
+fn read_row(alloc: Global, fields: Option<&[u8]>) -> Result<Option<Command>, NoMemory>
+    ensures { IfOk result (λ command. command ≡ row (words_after (option_copied fields.entry))) }
 {
-    let Some(a) = only_word(fields) else {
+    let Some((key0, rest)) = cut_key(alloc, fields)? else {
         return Ok(None);
     };
-    match read_key(alloc, a)? {
-        Some(key0) => Ok(Some(Command::Row { key0 })),
-        None => Ok(None),
-    }
+    Ok(if_last(Command::Row { key0 }, rest))
 }
 
-// The command of a name and its fields, or `None` where there is no such command.
-fn read_named(alloc: Global, name: &[u8], fields: &[u8]) -> Result<Option<Command>, NoMemory>
-    ensures { IfOk result (λ command. command ≡ command_of name.now (words fields.now)) }
+/// The command of a line, or `None` where the line is none.
+pub(crate) fn read_command(alloc: Global, line: &[u8]) -> Result<Option<Command>, NoMemory>
+    ensures { IfOk result (λ command. command ≡ command_of_words (words line.now)) }
 {
+    let (name, fields) = cut_word(line);
     if name == b"get".as_slice() {
         read_get(alloc, fields)
     } else if name == b"put".as_slice() {
@@ -114,16 +111,6 @@ fn read_named(alloc: Global, name: &[u8], fields: &[u8]) -> Result<Option<Comman
         read_row(alloc, fields)
     } else {
         Ok(None)
-    }
-}
-
-/// The command of a line, or `None` where the line is none.
-pub(crate) fn read_command(alloc: Global, line: &[u8]) -> Result<Option<Command>, NoMemory>
-    ensures { IfOk result (λ command. command ≡ command_of_words (words line.now)) }
-{
-    match cut_word(line) {
-        (name, Some(fields)) => read_named(alloc, name, fields),
-        (_, None) => Ok(None),
     }
 }
 

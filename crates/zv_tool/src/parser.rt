@@ -8,8 +8,9 @@ ghost use Rattle.zv_tool.specs.Parser.{Lacks, outcome_of, kept_size, outcome_wit
 
 use crate::commands::{Commands, MAX_COMMANDS};
 use crate::device::{Failed, Source};
+use crate::field::read_field;
 use crate::input::{MAX_INPUT, PIECE, ReadError};
-use crate::lines::{read_field, split_at_byte};
+use crate::lines::split_at_byte;
 use crate::parse::{InputError, Request, keep, read_command};
 use std::alloc::Global;
 use zv_ule::NoMemory;
