@@ -10,3 +10,4 @@ pub mod PutRoom
 pub mod Refusals
 pub mod Sending
 pub mod Served
+pub mod Telling

@@ -1,7 +1,7 @@
 -- What the program writes, and how it ends.
 use Rattle.std.specs.Prelude.{◌≡◌, ◌⊎◌, ◌≤◌, ℕ, Bool, true, false, List, [], ◌∷◌, length, codes}
 use Rattle.std.specs.Prelude.{bytes_eq, is_some, if◌then◌else◌, ◌||◌, Result, MatchOption}
-use Rattle.std.specs.Prelude.{IfSome, MatchResult}
+use Rattle.std.specs.Prelude.{IfSome, IsTrue, MatchResult, min}
 use Rattle.std.specs.declared.option.Option.{Option}
 use Rattle.std.specs.declared.option.Option.TheVariants.{Some, None}
 use Rattle.std.specs.declared.result.Result.TheVariants.{Ok, Err}
@@ -18,7 +18,7 @@ use Rattle.zv_tool.specs.declared.status.Status.TheVariants.{Done, Usage, ReadFa
 use Rattle.zv_tool.specs.declared.status.Status.TheVariants.{BadLine, BadImage, Memory, WriteFault}
 use Rattle.zv_tool.specs.declared.input.TheConstants.{MAX_INPUT}
 use Rattle.zv_tool.specs.Answers.{IsAnswer, reply}
-use Rattle.zv_tool.specs.Devices.{Rose, AppendsPrefix}
+use Rattle.zv_tool.specs.Devices.{Rose, AppendsPrefix, CutShort, Written}
 use Rattle.zv_tool.specs.Digits.{◌>>=◌}
 use Rattle.zv_tool.specs.Input.{key, look_input, parse_input, three_words}
 use Rattle.zv_tool.specs.Output.{bad_line, cause_line, text, usage_line}
@@ -165,3 +165,34 @@ code_of WriteFault = 7
 abbrev pub Sent : Status → Status → List ℕ → Option (List ℕ) → Option (List ℕ) → ℕ → ℕ → Type 0
 Sent result status text old new before now = ((result ≡ status) × Appends old new text)
     ⊎ ((result ≡ WriteFault) × Rose before now × AppendsPrefix old new text)
+
+-- ---- by what an input parses to
+
+-- A text that is wanted for this form, an image and commands, of which a look-up takes none.
+abbrev pub RequestText : Form → List ℕ → List Command → List ℕ → Type 0
+RequestText Edit image cs text = ImageText image cs text
+RequestText (Look key0 key1) image [] text = LookedText image key0 key1 text
+RequestText (Look key0 key1) image (c ∷ cs) text = text ≡ bad_line 2
+
+-- the status that they lead to
+abbrev pub status_of_request : Form → List ℕ → List Command → Status
+status_of_request Edit image cs = status_of_image image
+status_of_request (Look key0 key1) image [] = status_of_image image
+status_of_request (Look key0 key1) image (c ∷ cs) = BadLine
+
+-- the first bad line of an input, by its first bad line for an edit: a look-up takes one line
+abbrev pub first_bad : Form → ℕ → ℕ
+first_bad Edit number = number
+first_bad (Look key0 key1) number = min number 2
+
+-- A text that is wanted was taken whole and the status is the one that is due; or no memory was
+-- given and nothing was taken; or the sink failed and took a prefix.
+pub record Tells {K : Type 0} (taken : K → Option (List ℕ)) (faults : K → ℕ) (old new : K)
+    (result : Status) (Wanted : List ℕ → Type 0) (due : Status) : Type 0 where
+  pub status : IsTrue (is_answer result) → result ≡ due
+  pub written : IsTrue (is_answer result) → Written Wanted (taken old) (taken new)
+  pub other : IsTrue (is_answer result) ⊎ (result ≡ Memory) ⊎ (result ≡ WriteFault)
+  pub memory : result ≡ Memory → new ≡ old
+  pub fault : result ≡ WriteFault → Rose (faults old) (faults new)
+  pub cut : result ≡ WriteFault → CutShort Wanted (taken old) (taken new)
+  pub later : faults old ≤ faults new

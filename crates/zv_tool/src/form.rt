@@ -18,6 +18,21 @@ pub(crate) enum Form {
     Look { key0: KeyText, key1: KeyText },
 }
 
+impl Form {
+    ghost use Rattle.std.specs.Prelude.{◌≡◌};
+    ghost use Rattle.zv_tool.specs.Program.{first_bad};
+
+    /// The first bad line of an input, by its first bad line for an edit: a look-up takes one line.
+    pub(crate) fn first_bad(&self, number: u64) -> u64
+        ensures { result ≡ first_bad self.now number }
+    {
+        match self {
+            Form::Edit => number,
+            Form::Look { .. } => number.min(2),
+        }
+    }
+}
+
 // Whether the words are `edit`.
 fn is_edit(words: &Words) -> bool
     ensures { result ≡ is_edit words.now }

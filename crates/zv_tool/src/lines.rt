@@ -26,18 +26,6 @@ pub(crate) fn split_at_byte(byte: u8, text: &[u8]) -> (&[u8], Option<&[u8]>)
     }
 }
 
-/// The first line, and what follows it.
-pub(crate) fn cut_line(text: &[u8]) -> (&[u8], &[u8])
-    requires { 0 < length text.now }
-    ensures { lines text.now ≡ result.0.now ∷ lines result.1.now }
-{
-    let (line, rest) = split_at_byte(b'\n', text);
-    match rest {
-        Some(rest) => (line, rest),
-        None => (line, &text[text.len()..]),
-    }
-}
-
 /// The first word, and what follows the space after it, if there is one.
 pub(crate) fn cut_word(text: &[u8]) -> (&[u8], Option<&[u8]>)
     ensures { words text.now ≡ result.0.now ∷ words_after (option_copied result.1) }

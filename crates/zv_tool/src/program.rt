@@ -1,23 +1,22 @@
 // The top call.
 ghost use Rattle.std.specs.Prelude.{◌≡◌, ◌⊎◌, ◌<◌, ◌≤◌, IsTrue, IsFalse, IfSome, None, length};
-ghost use Rattle.std.specs.Io.KnownBytes.{Appends, IsAtEnd};
+ghost use Rattle.std.specs.Io.KnownBytes.{IsAtEnd};
 ghost use Rattle.zv_map2d.specs.Causes.{is_cause};
-ghost use Rattle.zv_tool.specs.Devices.{Rose, AppendsPrefix, Written, CutShort};
+ghost use Rattle.zv_tool.specs.Devices.{Rose, Written, CutShort};
 ghost use Rattle.zv_tool.specs.Input.{look_input, parse_input};
 ghost use Rattle.zv_tool.specs.Output.{bad_line, cause_line};
 ghost use Rattle.zv_tool.specs.Program.{form_of, is_edit, is_look, names_form};
 ghost use Rattle.zv_tool.specs.Program.{is_answer, is_silent, is_written};
-ghost use Rattle.zv_tool.specs.Program.{FormWanted, ImageText, WantedText};
-ghost use Rattle.zv_tool.specs.Program.{IsWantedStatus, status_of_image};
-ghost use Rattle.zv_tool.specs.Program.{status_of_look, status_of_parsed};
-ghost use Rattle.zv_tool.specs.Program.{Sent};
+ghost use Rattle.zv_tool.specs.Program.{FormWanted, ImageText, RequestText, WantedText};
+ghost use Rattle.zv_tool.specs.Program.{IsWantedStatus, Sent, Tells, status_of_form};
+ghost use Rattle.zv_tool.specs.Program.{status_of_image, status_of_look, status_of_parsed};
+ghost use Rattle.zv_tool.specs.Program.{status_of_request};
 
-use crate::command::KeyText;
 use crate::device::{Failed, Sink, Source};
 use crate::edit::edit2d;
 use crate::form::{Form, read_form};
-use crate::input::{MAX_INPUT, ReadError, read_input};
-use crate::look::answer_look;
+use crate::input::{MAX_INPUT, ReadError};
+use crate::look;
 use crate::parse::{InputError, Request};
 use crate::parser::read_request;
 use crate::status::Status;
@@ -56,22 +55,11 @@ pub(crate) fn cause_text(cause: EditError) -> &'static [u8]
     }
 }
 
-// Answers an image and commands.
-#[tactic(auto, using(crate::proofs::Refusals::sound_text, crate::proofs::Refusals::sound_status))]
+// Answers an image and commands of `edit`.
 fn respond<K: Sink>(alloc: Global, request: &Request, sink: &mut K) -> Status
-    ensures written { IsTrue (is_answer result)
-        → Written (ImageText request.now.image.items request.now.commands)
-        (K.taken sink.old) (K.taken sink.new) }
-    ensures answer { IsTrue (is_answer result)
-        → result ≡ status_of_image request.now.image.items }
-    ensures status { IsTrue (is_answer result)
-        ⊎ (result ≡ Status.Memory) ⊎ (result ≡ Status.WriteFault) }
-    ensures memory { result ≡ Status.Memory → sink.new ≡ sink.old }
-    ensures cut { result ≡ Status.WriteFault
-        → CutShort (ImageText request.now.image.items request.now.commands)
-        (K.taken sink.old) (K.taken sink.new) }
-    ensures fault { result ≡ Status.WriteFault → Rose (K.faults sink.old) (K.faults sink.new) }
-    ensures later { K.faults sink.old ≤ K.faults sink.new }
+    ensures { Tells K.taken K.faults sink.old sink.new result
+        (ImageText request.now.image.items request.now.commands)
+        (status_of_image request.now.image.items) }
 {
     match edit2d(alloc, &request.image, &request.commands, sink) {
         Ok(()) => Status::Done,
@@ -81,17 +69,10 @@ fn respond<K: Sink>(alloc: Global, request: &Request, sink: &mut K) -> Status
     }
 }
 
-/// Names the first bad line.
-pub(crate) fn name_line<K: Sink>(alloc: Global, number: u64, sink: &mut K) -> Status
-    ensures written { IsTrue (is_answer result) → (result ≡ Status.BadLine)
-        × Appends (K.taken sink.old) (K.taken sink.new) (bad_line number) }
-    ensures status { IsTrue (is_answer result)
-        ⊎ (result ≡ Status.Memory) ⊎ (result ≡ Status.WriteFault) }
-    ensures memory { result ≡ Status.Memory → sink.new ≡ sink.old }
-    ensures cut { result ≡ Status.WriteFault
-        → AppendsPrefix (K.taken sink.old) (K.taken sink.new) (bad_line number) }
-    ensures fault { result ≡ Status.WriteFault → Rose (K.faults sink.old) (K.faults sink.new) }
-    ensures later { K.faults sink.old ≤ K.faults sink.new }
+// Names the first bad line.
+fn name_line<K: Sink>(alloc: Global, number: u64, sink: &mut K) -> Status
+    ensures { Tells K.taken K.faults sink.old sink.new result
+        (λ text. text ≡ bad_line number) Status.BadLine }
 {
     let Ok(text) = format!(in alloc; "error line {number}\n") else {
         return Status::Memory;
@@ -99,22 +80,43 @@ pub(crate) fn name_line<K: Sink>(alloc: Global, number: u64, sink: &mut K) -> St
     send(sink, text.as_bytes(), Status::BadLine)
 }
 
-// Reads the source to its end and runs the commands of what it gives.
-fn run_edit<S: Source, K: Sink>(alloc: Global, source: &mut S, sink: &mut K) -> Status
-    ensures written { IsTrue (is_answer result)
-        → Written (FormWanted Form.Edit (S.left source.old))
+// Answers an image and commands, of which a look-up takes none: its second line is bad.
+fn answer<K: Sink>(alloc: Global, form: &Form, request: &Request, sink: &mut K) -> Status
+    ensures { Tells K.taken K.faults sink.old sink.new result
+        (RequestText form.now request.now.image.items request.now.commands)
+        (status_of_request form.now request.now.image.items request.now.commands) }
+{
+    match form {
+        Form::Edit => respond(alloc, request, sink),
+        Form::Look { key0, key1 } => {
+            if request.commands.is_empty() {
+                look::respond(&request.image, key0, key1, sink)
+            } else {
+                name_line(alloc, 2, sink)
+            }
+        }
+    }
+}
+
+// Reads the source to its end and answers what it gives.
+fn run_form<S: Source, K: Sink>(
+    alloc: Global,
+    form: &Form,
+    source: &mut S,
+    sink: &mut K,
+) -> Status
+    ensures written { IsTrue (is_answer result) → Written (FormWanted form.now (S.left source.old))
         (K.taken sink.old) (K.taken sink.new) }
     ensures status { IsTrue (is_answer result) → IfSome (S.left source.old) (λ input.
-        result ≡ status_of_parsed (parse_input input)) }
+        result ≡ status_of_form form.now input) }
     ensures other { IsTrue (is_answer result) ⊎ IsTrue (is_silent result)
         ⊎ (result ≡ Status.WriteFault) }
     ensures silent { IsTrue (is_silent result) → sink.new ≡ sink.old }
     ensures cut { result ≡ Status.WriteFault
-        → CutShort (FormWanted Form.Edit (S.left source.old))
-        (K.taken sink.old) (K.taken sink.new) }
+        → CutShort (FormWanted form.now (S.left source.old)) (K.taken sink.old) (K.taken sink.new) }
     ensures end { IsTrue (is_answer result) → IsAtEnd (S.left source.new) }
     ensures complete { IfSome (S.left source.old) (λ input. length input ≤ MAX_INPUT →
-        (result ≡ status_of_parsed (parse_input input))
+        (result ≡ status_of_form form.now input)
         ⊎ (result ≡ Status.Memory)
         ⊎ Rose (S.faults source.old) (S.faults source.new)
         ⊎ Rose (K.faults sink.old) (K.faults sink.new)) }
@@ -128,53 +130,11 @@ fn run_edit<S: Source, K: Sink>(alloc: Global, source: &mut S, sink: &mut K) -> 
     ensures later_writes { K.faults sink.old ≤ K.faults sink.new }
 {
     match read_request(alloc, source) {
-        Ok(Ok(request)) => respond(alloc, &request, sink),
-        Ok(Err(InputError::BadLine(number))) => name_line(alloc, number, sink),
+        Ok(Ok(request)) => answer(alloc, form, &request, sink),
+        Ok(Err(InputError::BadLine(number))) => name_line(alloc, form.first_bad(number), sink),
         Ok(Err(InputError::Memory)) | Err(ReadError::Memory) => Status::Memory,
         Err(ReadError::Fault) => Status::ReadFault,
         Err(ReadError::TooLong) => Status::TooLong,
-    }
-}
-
-// Reads the source to its end and looks up a pair of keys in what it gives.
-fn run_look<S: Source, K: Sink>(
-    alloc: Global,
-    key0: &KeyText,
-    key1: &KeyText,
-    source: &mut S,
-    sink: &mut K,
-) -> Status
-    ensures written { IsTrue (is_answer result)
-        → Written (FormWanted (Form.Look key0.now key1.now) (S.left source.old))
-        (K.taken sink.old) (K.taken sink.new) }
-    ensures status { IsTrue (is_answer result) → IfSome (S.left source.old) (λ input.
-        result ≡ status_of_look (look_input input)) }
-    ensures other { IsTrue (is_answer result) ⊎ IsTrue (is_silent result)
-        ⊎ (result ≡ Status.WriteFault) }
-    ensures silent { IsTrue (is_silent result) → sink.new ≡ sink.old }
-    ensures cut { result ≡ Status.WriteFault
-        → CutShort (FormWanted (Form.Look key0.now key1.now) (S.left source.old))
-        (K.taken sink.old) (K.taken sink.new) }
-    ensures end { IsTrue (is_answer result) → IsAtEnd (S.left source.new) }
-    ensures complete { IfSome (S.left source.old) (λ input. length input ≤ MAX_INPUT →
-        (result ≡ status_of_look (look_input input))
-        ⊎ (result ≡ Status.Memory)
-        ⊎ Rose (S.faults source.old) (S.faults source.new)
-        ⊎ Rose (K.faults sink.old) (K.faults sink.new)) }
-    ensures read_fault { result ≡ Status.ReadFault
-        → Rose (S.faults source.old) (S.faults source.new) }
-    ensures too_long { result ≡ Status.TooLong
-        → IfSome (S.left source.old) (λ input. MAX_INPUT < length input) }
-    ensures write_fault { result ≡ Status.WriteFault
-        → Rose (K.faults sink.old) (K.faults sink.new) }
-    ensures later_reads { S.faults source.old ≤ S.faults source.new }
-    ensures later_writes { K.faults sink.old ≤ K.faults sink.new }
-{
-    match read_input(alloc, source) {
-        Ok(input) => answer_look(alloc, key0, key1, input, sink),
-        Err(ReadError::Fault) => Status::ReadFault,
-        Err(ReadError::TooLong) => Status::TooLong,
-        Err(ReadError::Memory) => Status::Memory,
     }
 }
 
@@ -243,8 +203,7 @@ pub fn run<S: Source, K: Sink>(alloc: Global, words: &Words, source: &mut S, sin
     ensures later_writes { K.faults sink.old ≤ K.faults sink.new }
 {
     match read_form(alloc, words) {
-        Ok(Some(Form::Edit)) => run_edit(alloc, source, sink),
-        Ok(Some(Form::Look { key0, key1 })) => run_look(alloc, &key0, &key1, source, sink),
+        Ok(Some(form)) => run_form(alloc, &form, source, sink),
         Ok(None) => send(sink, b"usage: zv COMMAND\n", Status::Usage),
         Err(NoMemory) => Status::Memory,
     }

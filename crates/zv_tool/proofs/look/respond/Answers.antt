@@ -1,7 +1,8 @@
-use Rattle.std.proofs.Common.{rules, ◌≡◌, ◌∙◌, inl, inr, Some, sym}
+use Rattle.std.proofs.Common.{◌≡◌, ◌∙◌, inl, inr, refl, Some, sym}
 use Rattle.zv_map2d.specs.Image.{fault}
 use Rattle.zv_tool.specs.Program.{LookedText}
 use Rattle.zv_tool.proofs.Refusals.{found_look, refused_look, refused_status, sound_status}
+use Rattle.zv_tool.proofs.Telling.{tells_sent, tells_as}
 use Rattle.zv_tool.proofs.look.respond.Goals as goal
 
 pub returns-in-Err : goal.returns-in-Err
@@ -11,37 +12,18 @@ returns-in-Err g c =
     let is : fault image ≡ Some c.in-Err.cause = sym c.in-Err.ensures.error in
     let wanted : LookedText image c.args.key0.now c.args.key1.now text =
     refused_look image c.args.key0.now c.args.key1.now c.in-Err.cause text is c.cause_text.ensures in
-    elim c.send.ensures.sent [
-      | inl taken ↦ record {
-        written = λ _. (text, wanted, taken.1);
-        answer = λ _. taken.0 ∙ sym (refused_status image c.in-Err.cause is);
-        status = search rules;
-        cut = λ other. cc (sym taken.0 ∙ other);
-        fault = λ other. cc (sym taken.0 ∙ other);
-        later = c.send.ensures.later;
-      }
-      | inr cut ↦ record {
-        written = search rules;
-        answer = search rules;
-        status = inr cut.0;
-        cut = λ _. (text, wanted, cut.2);
-        fault = λ _. cut.1;
-        later = c.send.ensures.later;
-      }
-    ]
+    tells_as (λ t w. w) (sym (refused_status image c.in-Err.cause is)) (tells_sent text refl wanted c.send.ensures.sent c.send.ensures.later)
 
--- what is due for what was found
-pub returns-in-Ok-tell-clause-written : goal.returns-in-Ok-tell-clause-written
-returns-in-Ok-tell-clause-written g c =
+pub returns-in-Ok-tell : goal.returns-in-Ok-tell
+returns-in-Ok-tell g c =
     let wanted = found_look c.args.image.now c.args.key0.now c.args.key1.now _ _ _ (sym c.in-Ok.ensures.error) c.as_str.ensures c.as_str-2.ensures
     c.in-Ok.ensures.value in
-    λ _. (_, wanted, c.in-Ok-tell.ensures.text)
+    tells_as (λ t w. w) (sym (sound_status c.args.image.now (sym c.in-Ok.ensures.error)))
+    (tells_sent _ refl wanted (inl (refl, c.in-Ok-tell.ensures.text)) c.tell.ensures.cause.later)
 
-pub returns-in-Ok-tell-clause-answer : goal.returns-in-Ok-tell-clause-answer
-returns-in-Ok-tell-clause-answer g c = λ _. sym (sound_status c.args.image.now (sym c.in-Ok.ensures.error))
-
-pub returns-in-Err-tell-clause-cut : goal.returns-in-Err-tell-clause-cut
-returns-in-Err-tell-clause-cut g c =
+pub returns-in-Err-tell : goal.returns-in-Err-tell
+returns-in-Err-tell g c =
     let wanted = found_look c.args.image.now c.args.key0.now c.args.key1.now _ _ _ (sym c.in-Ok.ensures.error) c.as_str.ensures c.as_str-2.ensures
     c.in-Ok.ensures.value in
-    λ _. (_, wanted, c.in-Err-tell.ensures.text)
+    tells_as (λ t w. w) (sym (sound_status c.args.image.now (sym c.in-Ok.ensures.error)))
+    (tells_sent _ refl wanted (inr (refl, c.in-Err-tell.ensures.cause.failed, c.in-Err-tell.ensures.text)) c.tell.ensures.cause.later)
