@@ -1,5 +1,5 @@
 -- What the four lists of a map have.
-use Rattle.std.proofs.Common.{◌≡◌, ◌⊎◌, inl, inr, ℕ, suc, ◌+◌, ◌-◌, ◌<◌, ◌≤◌, Bool, List, [], length, get_or, slice_index, slice_range, take, zip, IsTrue}
+use Rattle.std.proofs.Common.{◌≡◌, ◌⊎◌, inl, inr, ℕ, suc, ◌+◌, ◌-◌, ◌<◌, ◌≤◌, Bool, List, [], length, get_or, slice_index, slice_range, take, zip}
 use Rattle.std.proofs.Common.{Result, refl, sym, ◌∙◌, ap, subst, arith, zero-add, ◌∷◌, drop, length-append, length-drop, length-take}
 use Rattle.std.proofs.lemmas.List.{length-map, take-append-drop, take-take, take_all}
 use Rattle.std.proofs.lemmas.Option.{slice_get-get_or}
