@@ -6,13 +6,9 @@ use Rattle.zv_ule.specs.Search.{AtMostDigits, compared}
 use Rattle.zv_map2d.specs.Bounds.{AtMostDigitsOf}
 use Rattle.zv_map2d.specs.Keys.{Bytes, Order}
 use Rattle.zv_map2d.specs.Rows.{Rows, firsts, row, row_at}
-use Rattle.zv_map2d.proofs.PairPlaces.{row_is}
+use Rattle.zv_map2d.proofs.Places.{row_is}
 
--- where the first search alone is made
-pub first_search : (n a b : ℕ) → AtMostDigits n a → AtMostDigitsOf n a b
-first_search n a b few j k h l = omega (arith, few j h)
-
--- where both are made
+-- where two searches are made
 pub both_searches : (start middle end a b : ℕ) → start ≤ middle → middle ≤ end → AtMostDigits (middle - start) a → AtMostDigits (end - middle) b →
     AtMostDigitsOf (end - start) a b
 both_searches start middle end a b u v few more j k h l = omega (arith, few j h, more k l, u, v)

@@ -1,5 +1,5 @@
 -- The end of a map, and maps that are made of pairs.
-use Rattle.std.proofs.Common.{◌≡◌, ◌⊎◌, ℕ, suc, ◌+◌, ◌-◌, ◌<◌, ◌≤◌, ◌&&◌, true, false, List, ◌∷◌, length, drop, get_or, Option, Some, None, Ok, Err}
+use Rattle.std.proofs.Common.{◌≡◌, ◌⊎◌, ℕ, suc, ◌+◌, ◌-◌, ◌<◌, ◌≤◌, ◌&&◌, true, false, List, [], ◌∷◌, length, drop, get_or, Option, Some, None, Ok, Err}
 use Rattle.std.proofs.Common.{Result, IfErr, IfSome, is_some, is_none, inl, inr, refl, sym, ◌∙◌, ap, subst, arith}
 use Rattle.std.proofs.lemmas.List.{drop_more, length-map}
 use Rattle.std.specs.Cmp.{IsTotalOrder}
@@ -11,7 +11,7 @@ use Rattle.zv_map.proofs.Ascents.{compared_at, sorted_rises}
 use Rattle.zv_map.proofs.Places.{placed}
 use Rattle.zv_map.specs.Maps.{IsAt, keys_of}
 use Rattle.zv_ule.specs.Search.{IsGap, answer_at, compared}
-use Rattle.zv_map2d.specs.Appending.{first_refusal, is_above_key, put_all, written}
+use Rattle.zv_map2d.specs.Appending.{Triple, first_refusal, is_above_key, put_all, written}
 use Rattle.zv_map2d.specs.Fits.{Rule, fits}
 use Rattle.zv_map2d.specs.Keys.{Bytes, Order, nth}
 use Rattle.zv_map2d.specs.Places.{IsPlace}
@@ -87,34 +87,39 @@ module _ {order0 order1 : Order} (total0 : IsTotalOrder order0) (total1 : IsTota
 
 -- ---- triples that are left to be put
 
-module _ {A B C : Type 0} (key0 : A → Bytes) (key1 : B → Bytes) (value : C → Bytes) (rule : Rule) (order0 order1 : Order) (ts : List (A × B × C)) (i : ℕ)
-    (t : A × B × C) (h : i < length ts) (e : t ≡ get_or ts i t) (m : Rows) where
-  -- one, and the others
-  left_first : written key0 key1 value (drop i ts) ≡ (key0 t.0, key1 t.1, value t.2) ∷ written key0 key1 value (drop (i + 1) ts)
-  left_first = ap (written key0 key1 value) (drop_more ts i t h)
-      ∙ ap (λ (q : A × B × C). (key0 q.0, key1 q.1, value q.2) ∷ written key0 key1 value (drop (i + 1) ts)) (sym e)
+-- what is left leads from the map to what all triples lead to
+pub record LeadsTo (rule : Rule) (order0 order1 : Order) (all left : List Triple) (m : Rows) : Type 0 where
+  pub rows : put_all order0 order1 m left ≡ put_all order0 order1 [] all
+  pub refusals : first_refusal rule order0 order1 m left ≡ first_refusal rule order0 order1 [] all
 
-  pub put_first : put_all order0 order1 m (written key0 key1 value (drop i ts))
-      ≡ put_all order0 order1 (put order0 order1 m (key0 t.0) (key1 t.1) (value t.2)) (written key0 key1 value (drop (i + 1) ts))
-  put_first = ap (put_all order0 order1 m) left_first
+module _ {A B C : Type 0} (key0 : A → Bytes) (key1 : B → Bytes) (value : C → Bytes) {rule : Rule} {order0 order1 : Order} {all : List Triple} {m : Rows}
+    (ts : List (A × B × C)) (i : ℕ) (t : A × B × C) (h : i < length ts) (e : t ≡ get_or ts i t)
+    (left : LeadsTo rule order0 order1 all (written key0 key1 value (drop i ts)) m) where
+  abbrev rest : List Triple
+  rest = written key0 key1 value (drop (i + 1) ts)
 
-  -- a put that is taken leaves the refusals of the others
-  pub refusal_next : fits rule order0 order1 m (key0 t.0) (key1 t.1) (value t.2) ≡ true →
-      (is_none (find order0 order1 m (key0 t.0) (key1 t.1)) && is_full m) ≡ false →
-      first_refusal rule order0 order1 m (written key0 key1 value (drop i ts))
-      ≡ first_refusal rule order0 order1 (put order0 order1 m (key0 t.0) (key1 t.1) (value t.2)) (written key0 key1 value (drop (i + 1) ts))
-  refusal_next takes free = ap (first_refusal rule order0 order1 m) left_first ∙ rw (takes, free) refl
+  -- one is next, before the others
+  next : LeadsTo rule order0 order1 all ((key0 t.0, key1 t.1, value t.2) ∷ rest) m
+  next = subst (λ z. LeadsTo rule order0 order1 all z m) (ap (written key0 key1 value) (drop_more ts i t h)
+      ∙ ap (λ (q : A × B × C). (key0 q.0, key1 q.1, value q.2) ∷ rest) (sym e)) left
+
+  -- a put that is taken leaves the others
+  pub leads_on : {n : Rows} → n ≡ put order0 order1 m (key0 t.0) (key1 t.1) (value t.2) → fits rule order0 order1 m (key0 t.0) (key1 t.1) (value t.2) ≡ true →
+      (is_none (find order0 order1 m (key0 t.0) (key1 t.1)) && is_full m) ≡ false → LeadsTo rule order0 order1 all rest n
+  leads_on same takes free =
+      let step : first_refusal rule order0 order1 m ((key0 t.0, key1 t.1, value t.2) ∷ rest)
+      ≡ first_refusal rule order0 order1 (put order0 order1 m (key0 t.0) (key1 t.1) (value t.2)) rest = rw (takes, free) refl in
+      subst (LeadsTo rule order0 order1 all rest) (sym same) (record { rows = next.rows; refusals = sym step ∙ next.refusals })
 
   -- and one that is refused is the first
-  refusal_first : (error : Map2dError) (all : Option Map2dError) → first_refusal rule order0 order1 m (written key0 key1 value (drop i ts)) ≡ all →
+  first_refused : (error : Map2dError) →
       IsRefusal (fits rule order0 order1 m (key0 t.0) (key1 t.1) (value t.2)) (is_none (find order0 order1 m (key0 t.0) (key1 t.1)) && is_full m) error →
-      (error ≡ Memory) ⊎ (all ≡ Some error)
-  refusal_first TooLarge all same r = inr (sym same ∙ (ap (first_refusal rule order0 order1 m) left_first ∙ rw r refl))
-  refusal_first TooMany all same r = inr (sym same ∙ (ap (first_refusal rule order0 order1 m) left_first ∙ rw (r.0, r.1) refl))
-  refusal_first Memory all same r = inl refl
+      (error ≡ Memory) ⊎ (first_refusal rule order0 order1 [] all ≡ Some error)
+  first_refused TooLarge r = inr (sym next.refusals ∙ rw r refl)
+  first_refused TooMany r = inr (sym next.refusals ∙ rw (r.0, r.1) refl)
+  first_refused Memory r = inl refl
 
-  pub refused_first : {X : Type 0} (result : Result X Map2dError) (error : Map2dError) (all : Option Map2dError) → result ≡ Err error →
-      first_refusal rule order0 order1 m (written key0 key1 value (drop i ts)) ≡ all →
+  pub refused_first : {X : Type 0} (result : Result X Map2dError) (error : Map2dError) → result ≡ Err error →
       IsRefusal (fits rule order0 order1 m (key0 t.0) (key1 t.1) (value t.2)) (is_none (find order0 order1 m (key0 t.0) (key1 t.1)) && is_full m) error →
-      IfErr result (λ e. (e ≡ Memory) ⊎ (all ≡ Some e))
-  refused_first result error all is same r = rw is (refusal_first error all same r)
+      IfErr result (λ e. (e ≡ Memory) ⊎ (first_refusal rule order0 order1 [] all ≡ Some e))
+  refused_first result error is r = rw is (first_refused error r)

@@ -1,11 +1,10 @@
 -- What is found in a map after a change, and that what is found is all of a map.
 use Rattle.std.proofs.Common.{◌≡◌, ◌<◌, Bool, true, false, ◌&&◌, cond, List, [], ◌∷◌, ◌++◌, length, Option, Some, None, refl, ◌∙◌, ap, arith}
-use Rattle.std.specs.Bool.{⊤}
+use Rattle.std.proofs.lemmas.List.Elements.{All-append, All-from_recursion, recursion_from_All}
 use Rattle.std.specs.Cmp.{IsTotalOrder, tied_itself}
 use Rattle.std.specs.List.{AllByRecursion}
-use Rattle.std.specs.Option.{option_and_then, option_or, unwrap_or}
+use Rattle.std.specs.Option.{IfSome, option_and_then, option_or, unwrap_or}
 use Rattle.std.specs.Ordering.{is_eq}
-use Rattle.std.specs.declared.cmp.Ordering.{Ordering}
 use Rattle.std.specs.declared.cmp.Ordering.TheVariants.{Equal}
 use Rattle.zv_map.proofs.Places.{equal_of, look_up-insert_entry, look_up-without_key, look_up_alike, maps_alike}
 use Rattle.zv_map.specs.Maps.{IsMap, keys_of, values_of, look_up, insert_entry, without_key}
@@ -14,9 +13,9 @@ use Rattle.zv_ule.specs.declared.error.UleError.{UleError}
 use Rattle.zv_map2d.specs.Appending.{KeepsLast, Triple, last_given, put_all}
 use Rattle.zv_map2d.specs.FiniteMap.{PutIsFound, PutLeavesOthers, DelIsGone, DelLeavesOthers, FoundAlike, FoundInRow}
 use Rattle.zv_map.specs.Keys.{IsElementOf}
-use Rattle.zv_map2d.specs.Keys.{Bytes}
+use Rattle.zv_map2d.specs.Keys.{Bytes, Order}
 use Rattle.zv_map2d.specs.Rows.{Rows, IsRow, IsWell, seconds, row, find, put, with_row, del}
-use Rattle.zv_map2d.proofs.Well.{row_holds, row_ordered}
+use Rattle.zv_map2d.proofs.Well.{look_up_holds, row_holds, row_ordered, values_all}
 
 -- ---- after a change
 
@@ -25,7 +24,7 @@ unwrap_cond : (b : Bool) (r : List (Bytes × Bytes)) (o o' : Option (List (Bytes
 unwrap_cond true r o o' e = e
 unwrap_cond false r o o' e = refl
 
-module _ {order0 order1 : Bytes → Bytes → Ordering} (total0 : IsTotalOrder order0) (total1 : IsTotalOrder order1) (m : Rows) (k0 k1 j0 j1 : Bytes) where
+module _ {order0 order1 : Order} (total0 : IsTotalOrder order0) (total1 : IsTotalOrder order1) (m : Rows) (k0 k1 j0 j1 : Bytes) where
   row-insert_entry : (r : List (Bytes × Bytes)) → row order0 (insert_entry order0 m k0 r) j0 ≡ cond (is_eq (order0 k0 j0)) r (row order0 m j0)
   row-insert_entry r = ap (λ o. unwrap_or o []) (look_up-insert_entry total0 m k0 j0 r)
       ∙ unwrap_cond (is_eq (order0 k0 j0)) r (look_up order0 m j0) (Some r) refl
@@ -60,7 +59,7 @@ module _ {order0 order1 : Bytes → Bytes → Ordering} (total0 : IsTotalOrder o
       found (with_row order0 m k0 r) r None (row-with_row well.0 r) (look_up-without_key total1 (row order0 m k0) k1 j1 (row_ordered total0 total1 m k0 well))
 
 -- a key pair is itself
-itself : {order0 order1 : Bytes → Bytes → Ordering} → IsTotalOrder order0 → IsTotalOrder order1 → (k0 k1 : Bytes) →
+itself : {order0 order1 : Order} → IsTotalOrder order0 → IsTotalOrder order1 → (k0 k1 : Bytes) →
     (is_eq (order0 k0 k0) && is_eq (order1 k1 k1)) ≡ true
 itself total0 total1 k0 k1 = rw (tied_itself total0 k0, tied_itself total1 k1) refl
 
@@ -91,16 +90,19 @@ pub rows_keys : (P : Bytes → Type 0) (m : Rows) → AllByRecursion P (seconds 
 rows_keys P [] all = tt
 rows_keys P (r ∷ m) all = let t = parts P (keys_of r.1) (seconds m) all in (t.0, rows_keys P m t.1)
 
+-- and back
+pub keys_rows : (P : Bytes → Type 0) (m : Rows) → AllByRecursion (λ r. AllByRecursion P (keys_of r)) (values_of m) → AllByRecursion P (seconds m)
+keys_rows P [] all = tt
+keys_rows P (r ∷ m) all =
+    recursion_from_All P _ (All-append P _ _ (All-from_recursion P _ all.0) (All-from_recursion P _ (keys_rows P m all.1)))
+
 -- a row that was looked up has a pair
 abbrev HasPair : Option (List (Bytes × Bytes)) → Type 0
-HasPair None = ⊤
-HasPair (Some r) = 0 < length r
+HasPair o = IfSome o (λ r. 0 < length r)
 
-look_up_some : (order0 order1 : Bytes → Bytes → Ordering) (m : Rows) (k : Bytes) → AllByRecursion (IsRow order1) m → HasPair (look_up order0 m k)
-look_up_some order0 order1 [] k all = tt
-look_up_some order0 order1 (r ∷ m) k all =
-    let by : (b : Bool) → HasPair (cond b (Some r.1) (look_up order0 m k)) = elim [ true ↦ all.0.0 | false ↦ look_up_some order0 order1 m k all.1 ] in
-    by (is_eq (order0 k r.0))
+look_up_some : (order0 order1 : Order) (m : Rows) (k : Bytes) → AllByRecursion (IsRow order1) m → HasPair (look_up order0 m k)
+look_up_some order0 order1 m k all =
+    look_up_holds order0 (λ r. 0 < length r) m k (values_all (λ r. 0 < length r) (λ r (h : IsRow order1 r). h.0) m all)
 
 -- so no row is one without pairs
 same_row : (a b : Option (List (Bytes × Bytes))) → HasPair a → HasPair b → unwrap_or a [] ≡ unwrap_or b [] → a ≡ b
@@ -109,7 +111,7 @@ same_row None (Some r) h k e = absurd (omega (arith, k, ap length e))
 same_row (Some r) None h k e = absurd (omega (arith, h, ap length e))
 same_row (Some r) (Some s) h k e = ap Some e
 
-exact_keys : {fault : Bytes → Option UleError} {order : Bytes → Bytes → Ordering} → EqualIsSame fault order →
+exact_keys : {fault : Bytes → Option UleError} {order : Order} → EqualIsSame fault order →
     (a b : Bytes) → IsElementOf fault a → IsElementOf fault b → order a b ≡ Equal → a ≡ b
 exact_keys exact a b ka kb e = exact a b ka.bytes kb.bytes ka.valid kb.valid e
 
@@ -140,7 +142,7 @@ or_cond None true x p = refl
 or_cond None false x p = refl
 
 -- a pair of keys has the last value that was given, or what it had
-last_or : {order0 order1 : Bytes → Bytes → Ordering} → IsTotalOrder order0 → IsTotalOrder order1 → (m : Rows) (ts : List Triple) (k0 k1 : Bytes) →
+last_or : {order0 order1 : Order} → IsTotalOrder order0 → IsTotalOrder order1 → (m : Rows) (ts : List Triple) (k0 k1 : Bytes) →
     find order0 order1 (put_all order0 order1 m ts) k0 k1 ≡ option_or (last_given order0 order1 ts k0 k1) (find order0 order1 m k0 k1)
 last_or total0 total1 m [] k0 k1 = refl
 last_or {order0} {order1} total0 total1 m (t ∷ ts) k0 k1 =

@@ -83,15 +83,16 @@ module _ (g : Bytes × Bytes → Bytes) (m : Rows) (i : ℕ) (h : i < length m) 
     pub pair_within : j < length (row_at m i) → before m i + j < length (pick g m)
     pair_within k = omega (arith, length_pick g m, before_within m (suc i), before_suc m i h)
 
-    pub get_pair : j < length (row_at m i) → slice_get (pick g m) (before m i + j) ≡ slice_get (map g (row_at m i)) j
-    get_pair k =
+    pub nth_pair : j < length (row_at m i) → nth (pick g m) (before m i + j) ≡ nth (map g (row_at m i)) j
+    nth_pair k =
         let row : row_at m i ≡ (get_or m i ([], [])).1 = ap (λ r. r.1) (sym (row_is m i h)) in
-        let l : j < length (map g (row_at m i)) = omega (arith, length-map (row_at m i) g) in
-        let there : get_or (pick g m) (before m i + j) [] ≡ get_or (map g (row_at m i)) j [] =
-        ap (λ n. get_or (pick g m) (n + j) []) (sym (length_pick g (take i m)))
-        ∙ get_or-flat_map (λ r. map g r.1) m i j ([], []) [] h (omega (arith, l, ap (λ z. length (map g z)) row))
-        ∙ ap (λ z. get_or (map g z) j []) (sym row) in
-        slice_get-get_or (pick g m) (before m i + j) [] (pair_within k) ∙ (ap Some there ∙ sym (slice_get-get_or (map g (row_at m i)) j [] l))
+        ap (λ n. nth (pick g m) (n + j)) (sym (length_pick g (take i m)))
+        ∙ (get_or-flat_map (λ r. map g r.1) m i j ([], []) [] h (omega (arith, length-map (row_at m i) g, ap (λ z. length (map g z)) row))
+        ∙ ap (λ z. nth (map g z) j) (sym row))
+
+    pub get_pair : j < length (row_at m i) → slice_get (pick g m) (before m i + j) ≡ slice_get (map g (row_at m i)) j
+    get_pair k = slice_get-get_or (pick g m) (before m i + j) [] (pair_within k)
+        ∙ (ap Some (nth_pair k) ∙ sym (slice_get-get_or (map g (row_at m i)) j [] (omega (arith, length-map (row_at m i) g, k))))
 
 -- ---- ends
 

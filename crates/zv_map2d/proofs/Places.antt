@@ -1,50 +1,33 @@
--- What is found and changed in a map, at the place of a pair of keys.
-use Rattle.std.proofs.Common.{◌≡◌, ℕ, ◌<◌, ◌≤◌, ◌==◌, ◌&&◌, Bool, true, false, length, Option, None, is_none, is_some, Result, refl, sym}
-use Rattle.std.proofs.Common.{◌∙◌, ap, subst, arith, inl, inr}
-use Rattle.std.proofs.Math.Nat.{eq-or-lt_of_le}
+-- What is found and changed in a map in two levels, at the place of a pair of keys.
+use Rattle.std.proofs.Common.{◌≡◌, ℕ, zero, suc, ◌+◌, ◌<◌, ◌==◌, ◌&&◌, Bool, true, false, List, [], ◌∷◌, length, Option, Some, None, is_none, is_some, Result, refl, sym}
+use Rattle.std.proofs.Common.{◌∙◌, ap, arith}
 use Rattle.std.proofs.lemmas.Bool.Decides.{nat_tests}
+use Rattle.std.proofs.lemmas.List.{set_split, length-map}
+use Rattle.std.proofs.lemmas.List.Edits.{length-remove}
+use Rattle.std.proofs.lemmas.Option.{slice_get-get_or}
 use Rattle.std.specs.Cmp.{IsTotalOrder}
+use Rattle.std.specs.List.{remove, slice_get}
+use Rattle.std.specs.Option.{unwrap_or}
 use Rattle.std.specs.Prelude.{cond}
-use Rattle.std.specs.List.{remove}
-use Rattle.zv_map.proofs.Places.{at_within, gap_within, look_up_gap}
-use Rattle.zv_map.specs.Maps.{set_value_at}
-use Rattle.zv_map2d.specs.Fits.{Rule, fits}
+use Rattle.zv_map.proofs.Places.{at_within, by_place, look_up_at, look_up_gap, rank_at, insert_entry_at, insert_entry_gap, without_key_at, without_key_gap}
+use Rattle.zv_map.specs.Maps.{IsAt, keys_of, values_of, look_up, insert_entry, without_key, rank, set_value_at}
+use Rattle.zv_ule.specs.Search.{compared, IsGap}
+use Rattle.zv_map2d.specs.Fits.{Rule, fits, fits_by, if_found, place}
 use Rattle.zv_map2d.specs.Keys.{Bytes, Order}
 use Rattle.zv_map2d.specs.Outcomes.{Inserts, Puts}
-use Rattle.zv_map2d.specs.Places.{IsPlace, del_at, find_at, fits_at, is_pair, put_at}
 use Rattle.zv_map2d.specs.Refusals.{is_full}
-use Rattle.zv_map2d.specs.Rows.{Rows, IsWell, del, find, put, row_at}
+use Rattle.zv_map2d.specs.Places.{IsPlace, del_at, find_at, fits_at, is_pair, put_at}
+use Rattle.zv_map2d.specs.Rows.{Rows, IsWell, before, del, find, firsts, put, row, row_at, values, with_row}
 use Rattle.zv_map2d.specs.Views.{Map2d}
 use Rattle.zv_map2d.specs.declared.error.Map2dError.{Map2dError}
 use Rattle.zv_map2d.specs.declared.place.Place.{Place}
 use Rattle.zv_map2d.specs.declared.place.Place.TheVariants.{Pair, InRow, NewRow}
-use Rattle.zv_map2d.proofs.Fitting.{fits_pair}
-use Rattle.zv_map2d.proofs.Flat.{row_well}
-use Rattle.zv_map2d.proofs.PairPlaces.{del_new_pair, del_new_row, del_pair, del_row, find_new_pair, find_new_row, find_pair}
-use Rattle.zv_map2d.proofs.PairPlaces.{look_up_row, pair_in_row, put_new_pair, put_new_row, put_value, row_within}
+use Rattle.zv_map2d.proofs.Flat.{get_pair, pair_within, row_split, row_well}
 
--- what the place of keys is within
-module _ (order0 order1 : Order) (m : Rows) (k0 k1 : Bytes) (p : Place) (h : IsPlace order0 order1 m k0 k1 p) (i : ℕ) where
-  pub pair_there : (j : ℕ) → p ≡ Pair i j → (i < length m) × (j < length (row_at m i))
-  pair_there j e = let at = subst (IsPlace order0 order1 m k0 k1) e h in (at_within order0 k0 m i at.0, at_within order1 k1 (row_at m i) j at.1)
-
-  pub row_there : (j : ℕ) → p ≡ InRow i j → (i < length m) × (j ≤ length (row_at m i))
-  row_there j e = let at = subst (IsPlace order0 order1 m k0 k1) e h in (at_within order0 k0 m i at.0, gap_within order1 k1 (row_at m i) j at.1)
-
-  pub place_there : p ≡ NewRow i → i ≤ length m
-  place_there e = gap_within order0 k0 m i (subst (IsPlace order0 order1 m k0 k1) e h)
-
--- a pair that is alone in its row goes with it
-pub last_left : (m : Rows) (i j : ℕ) → length (row_at m i) ≡ 1 → del_at m (Pair i j) ≡ remove m i
-last_left m i j one =
-    let test : (length (row_at m i) == 1) ≡ true = grind (arith, nat_tests) in
-    ap (λ (b : Bool). cond b (remove m i) (set_value_at m i (remove (row_at m i) j))) test
-
--- and from others alone
-pub others_left : (m : Rows) (i j : ℕ) → (length (row_at m i) ≡ 1 → ⊥) → del_at m (Pair i j) ≡ set_value_at m i (remove (row_at m i) j)
-others_left m i j more =
-    let test : (length (row_at m i) == 1) ≡ false = grind (arith, nat_tests) in
-    ap (λ (b : Bool). cond b (remove m i) (set_value_at m i (remove (row_at m i) j))) test
+-- what the place of a pair that is there is within
+pub pair_there : (order0 order1 : Order) (m : Rows) (k0 k1 : Bytes) (i j : ℕ) → IsPlace order0 order1 m k0 k1 (Pair i j) →
+    (i < length m) × (j < length (row_at m i))
+pair_there order0 order1 m k0 k1 i j at = (at_within order0 k0 m i at.0, at_within order1 k1 (row_at m i) j at.1)
 
 -- where the pair is not there, nothing is found, and nothing is taken out
 module _ (m : Rows) where
@@ -63,30 +46,89 @@ module _ (m : Rows) where
   pair_found (InRow i j) = refl
   pair_found (NewRow i) = refl
 
+same_test : (n k : ℕ) → suc n ≡ k → (n == 0) ≡ (k == 1)
+same_test zero k e = let one : (k == 1) ≡ true = grind (arith, nat_tests) in sym one
+same_test (suc n) k e =
+    let some : (suc n == 0) ≡ false = grind (arith, nat_tests) in
+    let more : (k == 1) ≡ false = grind (arith, nat_tests) in
+    some ∙ sym more
+
 module _ {order0 order1 : Order} (total0 : IsTotalOrder order0) (total1 : IsTotalOrder order1) (m : Rows) (k0 k1 : Bytes) where
+  -- each pair of keys has a place
+  pub place_of : IsWell order0 order1 m → (p : Place) × IsPlace order0 order1 m k0 k1 p
+  place_of well = by_place total0 k0 (firsts m) well.0 ((p : Place) × IsPlace order0 order1 m k0 k1 p)
+      (λ i at. by_place total1 k1 (keys_of (row_at m i)) (row_well order1 m i well.1 (at_within order0 k0 m i at)).1
+      ((p : Place) × IsPlace order0 order1 m k0 k1 p) (λ j hit. (Pair i j, (at, hit))) (λ j gap. (InRow i j, (at, gap))))
+      (λ i gap. (NewRow i, gap))
+
+  -- the first key is missing
+  no_row : (i : ℕ) → IsGap (compared order0 (firsts m) k0) i → row order0 m k0 ≡ []
+  no_row i gap = ap (λ o. unwrap_or o []) (look_up_gap total0 k0 m i gap)
+
+  -- or there
+  module _ (i : ℕ) (at : IsAt (compared order0 (firsts m) k0) i) where
+    pub look_up_row : look_up order0 m k0 ≡ Some (row_at m i)
+    look_up_row = look_up_at total0 k0 m i at
+        ∙ slice_get-get_or (values_of m) i [] (omega (arith, at_within order0 k0 m i at, length-map m (λ e. e.1)))
+
+    pub row_is : row order0 m k0 ≡ row_at m i
+    row_is = ap (λ o. unwrap_or o []) look_up_row
+
+    put_in_row : (v : Bytes) → put order0 order1 m k0 k1 v ≡ set_value_at m i (insert_entry order1 (row_at m i) k1 v)
+    put_in_row v = ap (λ r. insert_entry order0 m k0 (insert_entry order1 r k1 v)) row_is ∙ insert_entry_at total0 k0 m _ i at
+
+    with_row_at : (r : List (Bytes × Bytes)) → with_row order0 m k0 r ≡ cond (length r == 0) (remove m i) (set_value_at m i r)
+    with_row_at [] = without_key_at total0 k0 m i at
+    with_row_at (p ∷ r) =
+        let some : (suc (length r) == 0) ≡ false = grind (arith, nat_tests) in
+        insert_entry_at total0 k0 m (p ∷ r) i at ∙ ap (λ (b : Bool). cond b (remove m i) (set_value_at m i (p ∷ r))) (sym some)
+
+  -- what is there, and what a change does there, at the place of the keys
+  pub find_pair : (i j : ℕ) → IsPlace order0 order1 m k0 k1 (Pair i j) → find order0 order1 m k0 k1 ≡ slice_get (values_of (row_at m i)) j
+  find_pair i j h = ap (λ r. look_up order1 r k1) (row_is i h.0) ∙ look_up_at total1 k1 (row_at m i) j h.1
+
   pub find_is : (p : Place) → IsPlace order0 order1 m k0 k1 p → find order0 order1 m k0 k1 ≡ find_at m p
-  find_is (Pair i j) h = find_pair total0 total1 m k0 k1 i h.0 j h.1
-  find_is (InRow i j) h = find_new_pair total0 total1 m k0 k1 i h.0 j h.1
-  find_is (NewRow i) h = find_new_row total0 total1 m k0 k1 i h
+  find_is (Pair i j) h =
+      let w = at_within order0 k0 m i h.0 in
+      let u = at_within order1 k1 (row_at m i) j h.1 in
+      find_pair i j h ∙ (sym (get_pair (λ e. e.1) m i w j u) ∙ slice_get-get_or (values m) (before m i + j) [] (pair_within (λ e. e.1) m i w j u))
+  find_is (InRow i j) h = ap (λ r. look_up order1 r k1) (row_is i h.0) ∙ look_up_gap total1 k1 (row_at m i) j h.1
+  find_is (NewRow i) h = ap (λ r. look_up order1 r k1) (no_row i h)
 
   pub put_is : (v : Bytes) (p : Place) → IsPlace order0 order1 m k0 k1 p → put order0 order1 m k0 k1 v ≡ put_at m k0 k1 v p
-  put_is v (Pair i j) h = put_value total0 total1 m k0 k1 i h.0 j h.1 v
-  put_is v (InRow i j) h = put_new_pair total0 total1 m k0 k1 i h.0 j h.1 v
-  put_is v (NewRow i) h = put_new_row total0 total1 m k0 k1 i h v
+  put_is v (Pair i j) h = put_in_row i h.0 v ∙ ap (set_value_at m i) (insert_entry_at total1 k1 (row_at m i) v j h.1)
+  put_is v (InRow i j) h = put_in_row i h.0 v ∙ ap (set_value_at m i) (insert_entry_gap total1 k1 (row_at m i) v j h.1)
+  put_is v (NewRow i) h = ap (λ r. insert_entry order0 m k0 (insert_entry order1 r k1 v)) (no_row i h) ∙ insert_entry_gap total0 k0 m ((k1, v) ∷ []) i h
+
+  pub fits_by_is : (test : Bytes → Bool) (rule : Rule) (v : Bytes) (p : Place) → IsPlace order0 order1 m k0 k1 p →
+      fits_by test rule order0 order1 m k0 k1 v ≡ if_found (find_at m p) test (fits_at rule m k0 k1 v p)
+  fits_by_is test rule v (Pair i j) h = rw (find_is (Pair i j) h) refl
+  fits_by_is test rule v (InRow i j) h = rw (find_is (InRow i j) h, look_up_row i h.0) refl
+  fits_by_is test rule v (NewRow i) h = rw (find_is (NewRow i) h, look_up_gap total0 k0 m i h) refl
 
   pub fits_is : (rule : Rule) (v : Bytes) (p : Place) → IsPlace order0 order1 m k0 k1 p → fits rule order0 order1 m k0 k1 v ≡ fits_at rule m k0 k1 v p
-  fits_is rule v (Pair i j) h = fits_pair rule total0 total1 m k0 k1 v i j h.0 h.1
-  fits_is rule v (InRow i j) h = rw (find_new_pair total0 total1 m k0 k1 i h.0 j h.1, look_up_row total0 total1 m k0 k1 i h.0) refl
-  fits_is rule v (NewRow i) h = rw (find_new_row total0 total1 m k0 k1 i h, look_up_gap total0 k0 m i h) refl
+  fits_is rule v (Pair i j) h =
+      let at : place order0 order1 m k0 k1 ≡ before m i + j = ap (λ n. before m n + rank order1 (row order0 m k0) k1) (rank_at total0 k0 m i h.0)
+      ∙ (ap (λ r. before m i + rank order1 r k1) (row_is i h.0) ∙ ap (λ n. before m i + n) (rank_at total1 k1 (row_at m i) j h.1)) in
+      fits_by_is (λ old. rule.replaces (values m) (place order0 order1 m k0 k1) (length v)) rule v (Pair i j) h
+      ∙ ap (λ n. rule.replaces (values m) n (length v)) at
+  fits_is rule v (InRow i j) h = fits_by_is (λ old. rule.replaces (values m) (place order0 order1 m k0 k1) (length v)) rule v (InRow i j) h
+  fits_is rule v (NewRow i) h = fits_by_is (λ old. rule.replaces (values m) (place order0 order1 m k0 k1) (length v)) rule v (NewRow i) h
 
   pub del_is : IsWell order0 order1 m → (p : Place) → IsPlace order0 order1 m k0 k1 p → del order0 order1 m k0 k1 ≡ del_at m p
   del_is well (Pair i j) h =
-      elim (eq-or-lt_of_le (row_well order1 m i well.1 (row_within total0 total1 m k0 k1 i h.0)).0) [
-        | inl one ↦ del_row total0 total1 m k0 k1 i h.0 j h.1 (sym one) ∙ sym (last_left m i j (sym one))
-        | inr more ↦ del_pair total0 total1 m k0 k1 i h.0 j h.1 more ∙ sym (others_left m i j (λ one. absurd (omega (arith, more, one))))
-      ]
-  del_is well (InRow i j) h = del_new_pair total0 total1 m k0 k1 i h.0 j h.1 well
-  del_is well (NewRow i) h = del_new_row total0 total1 m k0 k1 i h
+      let r = remove (row_at m i) j in
+      let one : suc (length r) ≡ length (row_at m i) = omega (arith, length-remove (row_at m i) j (at_within order1 k1 (row_at m i) j h.1)) in
+      ap (λ z. with_row order0 m k0 (without_key order1 z k1)) (row_is i h.0) ∙ (ap (with_row order0 m k0) (without_key_at total1 k1 (row_at m i) j h.1)
+      ∙ (with_row_at i h.0 r ∙ ap (λ (b : Bool). cond b (remove m i) (set_value_at m i r)) (same_test (length r) (length (row_at m i)) one)))
+  del_is well (InRow i j) h =
+      let w = at_within order0 k0 m i h.0 in
+      let some = (row_well order1 m i well.1 w).0 in
+      let test : (length (row_at m i) == 0) ≡ false = grind (arith, nat_tests) in
+      ap (λ z. with_row order0 m k0 (without_key order1 z k1)) (row_is i h.0) ∙ (ap (with_row order0 m k0) (without_key_gap total1 k1 (row_at m i) j h.1)
+      ∙ (with_row_at i h.0 (row_at m i) ∙ (ap (λ (b : Bool). cond b (remove m i) (set_value_at m i (row_at m i))) test
+      ∙ (set_split m i _ w ∙ sym (row_split m i w)))))
+  del_is well (NewRow i) h = ap (λ r. with_row order0 m k0 (without_key order1 r k1)) (no_row i h) ∙ without_key_gap total0 k0 m i h
 
 -- what a put says, told at the place
 inserts_as : {A : Type 0} {bytes : A → Bytes} {old new : Map2d} {m z : Rows} {v w : Option Bytes} {takes says : Bool} (full : Bool)

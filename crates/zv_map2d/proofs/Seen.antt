@@ -1,19 +1,21 @@
 -- What the four lists of a map have.
-use Rattle.std.proofs.Common.{◌≡◌, ℕ, suc, ◌+◌, ◌-◌, ◌<◌, ◌≤◌, Bool, List, [], length, get_or, slice_index, slice_range, take, zip, IsTrue}
-use Rattle.std.proofs.Common.{Result, refl, sym, ◌∙◌, ap, subst, arith, zero-add}
-use Rattle.std.proofs.lemmas.List.{length-map, take-take, take_all}
+use Rattle.std.proofs.Common.{◌≡◌, ◌⊎◌, inl, inr, ℕ, suc, ◌+◌, ◌-◌, ◌<◌, ◌≤◌, Bool, List, [], length, get_or, slice_index, slice_range, take, zip}
+use Rattle.std.proofs.Common.{Result, refl, sym, ◌∙◌, ap, subst, arith, zero-add, ◌∷◌, drop, length-append, length-drop, length-take}
+use Rattle.std.proofs.lemmas.List.{length-map, take-append-drop, take-take, take_all}
 use Rattle.std.proofs.lemmas.Option.{slice_get-get_or}
 use Rattle.std.proofs.Common.{Some}
-use Rattle.std.specs.List.{flat_map, slice_get}
+use Rattle.std.specs.Cmp.{IsTotalOrder}
+use Rattle.std.specs.List.{AllByRecursion, flat_map, insert, remove, slice_get}
+use Rattle.std.specs.Result.{MatchResult}
 use Rattle.std.specs.declared.cmp.Ordering.{Ordering}
-use Rattle.zv_map.proofs.Places.{compared_range}
-use Rattle.zv_map.specs.Maps.{keys_of, values_of}
-use Rattle.zv_ule.specs.Search.{compared, Found}
+use Rattle.zv_map.proofs.Places.{compared_range, placed}
+use Rattle.zv_map.specs.Maps.{IsAt, IsMap, keys_of, values_of}
+use Rattle.zv_ule.specs.Search.{compared, Found, IsGap}
 use Rattle.zv_map2d.specs.Appending.{last_key}
-use Rattle.zv_map2d.specs.Keys.{Bytes, Order}
-use Rattle.zv_map2d.specs.Rows.{Rows, firsts, seconds, values, ends, IsFlat, IsWell, before, row_at, rows_of}
-use Rattle.zv_map2d.specs.Views.{AreColumns, Map2d, Vector}
-use Rattle.zv_map2d.proofs.Flat.{before_suc, before_within, end_at, get_pair, length_ends, length_pick, row_range, values_as_many, view_of}
+use Rattle.zv_map2d.specs.Keys.{Bytes, Order, nth}
+use Rattle.zv_map2d.specs.Rows.{Rows, firsts, seconds, values, ends, IsFlat, IsRow, IsWell, before, row_at, rows_of}
+use Rattle.zv_map2d.specs.Views.{AreColumns, Map2d, Row, Vector, row_seen}
+use Rattle.zv_map2d.proofs.Flat.{before_suc, before_within, end_at, get_pair, length_ends, length_pick, nth_pair, row_range, row_well, values_as_many, view_of}
 use Rattle.zv_map2d.proofs.Flat.{zip_parts}
 
 -- lists that are the same as those of a map
@@ -26,11 +28,15 @@ pub seen : {u0 u1 u2 : Bool} {k0s : List Bytes} {es : List ℕ} {k1s vs : List B
     record { rows = rows_of k0s es k1s vs; keys0 = a; joiner = b; keys1 = c; values = d } ≡ m → AreColumns u0 u1 u2 k0s es k1s vs → IsFlat k0s es k1s vs m.rows
 seen {k0s = k0s} {es = es} {k1s = k1s} {vs = vs} same h = subst (λ (v : Map2d). IsFlat k0s es k1s vs v.rows) same h.flat
 
--- lists of a map are columns
-pub columns : {u0 u1 u2 : Bool} {k0s : List Bytes} {es : List ℕ} {k1s vs : List Bytes} {m : Rows} → IsTrue u0 → IsTrue u1 → IsTrue u2 → IsFlat k0s es k1s vs m →
-    AreColumns u0 u1 u2 k0s es k1s vs
-columns {k0s = k0s} {es = es} {k1s = k1s} {vs = vs} {m = m} a b c flat =
-    record { keys0 = a; keys1 = b; values = c; flat = subst (IsFlat k0s es k1s vs) (sym (view_of k0s es k1s vs m flat)) flat }
+-- lists of a map are columns where others were
+pub columns : {u0 u1 u2 : Bool} {k0s l0s : List Bytes} {es fs : List ℕ} {k1s l1s vs us : List Bytes} {m : Rows} → AreColumns u0 u1 u2 k0s es k1s vs →
+    IsFlat l0s fs l1s us m → AreColumns u0 u1 u2 l0s fs l1s us
+columns {l0s = k0s} {fs = es} {l1s = k1s} {us = vs} {m = m} old flat = record {
+  keys0 = old.keys0;
+  keys1 = old.keys1;
+  values = old.values;
+  flat = subst (IsFlat k0s es k1s vs) (sym (view_of k0s es k1s vs m flat)) flat;
+}
 
 -- lists of a well formed map are those of the map that they stand for
 pub views : (order0 order1 : Order) {k0s : List Bytes} {es : List ℕ} {k1s vs : List Bytes} {m : Rows} → IsFlat k0s es k1s vs m → IsWell order0 order1 m →
@@ -38,16 +44,6 @@ pub views : (order0 order1 : Order) {k0s : List Bytes} {es : List ℕ} {k1s vs :
 views order0 order1 {k0s = k0s} {es = es} {k1s = k1s} {vs = vs} {m = m} flat well =
     let same : m ≡ rows_of k0s es k1s vs = sym (view_of k0s es k1s vs m flat) in
     (subst (IsFlat k0s es k1s vs) same flat, subst (IsWell order0 order1) same well)
-
--- maps are the same where their lists are
-pub same_rows : {k0s l0s : List Bytes} {es fs : List ℕ} {k1s l1s vs us : List Bytes} {m n : Rows} → IsFlat k0s es k1s vs m → IsFlat l0s fs l1s us n → m ≡ n →
-    (k0s ≡ l0s) × (es ≡ fs) × (k1s ≡ l1s) × (vs ≡ us)
-same_rows a b e = (
-  a.firsts_are ∙ (ap firsts e ∙ sym b.firsts_are),
-  a.ends_are ∙ (ap ends e ∙ sym b.ends_are),
-  a.seconds_are ∙ (ap seconds e ∙ sym b.seconds_are),
-  a.values_are ∙ (ap values e ∙ sym b.values_are),
-)
 
 -- no lists are those of the map of no pairs
 pub none : {k0s : List Bytes} {es : List ℕ} {k1s vs : List Bytes} → k0s ≡ [] → es ≡ [] → k1s ≡ [] → vs ≡ [] → IsFlat k0s es k1s vs []
@@ -58,6 +54,19 @@ pub before_mono : (m : Rows) (i j : ℕ) → i ≤ j → before m i ≤ before m
 before_mono m i j h =
     let t : before (take j m) i ≡ before m i = ap (λ z. length (flat_map (λ r. r.1) z)) (take-take i j m h) in
     omega (arith, before_within (take j m) i, t)
+
+-- an insertion makes a list one longer, and a removal none
+pub one_more : (xs ys : List Bytes) (i : ℕ) (x : Bytes) → ys ≡ insert xs i x → length ys ≤ length xs + 1
+one_more xs ys i x e = omega (
+  arith,
+  ap length e,
+  length-append (take i xs) (x ∷ drop i xs),
+  length-append (take i xs) (drop i xs),
+  ap length (take-append-drop i xs),
+)
+
+pub no_more : (xs ys : List Bytes) (i : ℕ) → ys ≡ remove xs i → length ys ≤ length xs + 0
+no_more xs ys i e = omega (arith, ap length e, length-append (take i xs) (drop (suc i) xs), length-take i xs, length-drop (suc i) xs)
 
 -- as many second keys as the list has
 pub few_more : {u0 u1 u2 : Bool} {k0s l0s : List Bytes} {es fs : List ℕ} {k1s l1s vs us : List Bytes} (n : ℕ) → AreColumns u0 u1 u2 k0s es k1s vs →
@@ -86,58 +95,75 @@ module _ {k0s : List Bytes} {es : List ℕ} {k1s vs : List Bytes} {m : Rows} (s 
       let top = before_within m (suc i) in
       (omega (arith, before_suc m i h), omega (arith, all, top, length_pick (λ p. p.0) m), omega (arith, same, top, length_pick (λ p. p.0) m))
 
-  -- the second keys of a row
-  row_keys : (i : ℕ) → i < length m → slice_range k1s (before m i) (before m (suc i)) ≡ keys_of (row_at m i)
-  row_keys i h = ap (λ (xs : List Bytes). slice_range xs (before m i) (before m (suc i))) s.seconds_are ∙ row_range (λ p. p.0) m i h
+  -- where pair j of row i stands, or would, in the second keys and in the values
+  pub pair_stands : (i j at : ℕ) → i < length m → j < length (row_at m i) → at ≡ before m i + j → (at < length k1s) × (at < length vs)
+  pair_stands i j at h k e =
+      let w = row_within i h in (omega (arith, w.1, before_suc m i h, e, k), omega (arith, w.2, before_suc m i h, e, k))
 
-  -- and as a range of the second keys
+  pub pair_goes : (i j at : ℕ) → i < length m → j ≤ length (row_at m i) → at ≡ before m i + j → (at ≤ length k1s) × (at ≤ length vs)
+  pair_goes i j at h k e =
+      let w = row_within i h in (omega (arith, w.1, before_suc m i h, e, k), omega (arith, w.2, before_suc m i h, e, k))
+
+  -- where a row starts, or would
+  pub row_goes : (i at : ℕ) → at ≡ before m i → (at ≤ length k1s) × (at ≤ length vs)
+  row_goes i at e =
+      let top = before_within m i in
+      (omega (arith, ap length s.seconds_are, length_pick (λ p. p.0) m, e, top), omega (arith, ap length s.values_are, length_pick (λ p. p.1) m, e, top))
+
+  -- the second keys of a row
   pub row_range_is : (i start end : ℕ) → i < length m → start ≡ before m i → end ≡ before m (suc i) → slice_range k1s start end ≡ keys_of (row_at m i)
-  row_range_is i start end h a b = rw (a, b) (row_keys i h)
+  row_range_is i start end h a b = rw (a, b, s.seconds_are) (row_range (λ p. p.0) m i h)
 
   -- how many pairs lie between its ends
   pub row_size : (i start end : ℕ) → i < length m → start ≡ before m i → end ≡ before m (suc i) → end - start ≡ length (row_at m i)
   row_size i start end h a b = omega (arith, a, b, before_suc m i h)
 
   -- the last second key of a row
-  pub last_of_row : (i at : ℕ) → i < length m → 0 < length (row_at m i) → at + 1 ≡ before m (suc i) →
-      slice_get k1s at ≡ Some (last_key (keys_of (row_at m i)))
-  last_of_row i at h some e =
+  pub last_of_row : (i end : ℕ) → i < length m → 0 < length (row_at m i) → end ≡ before m (suc i) →
+      (end - 1 < length k1s) × (nth k1s (end - 1) ≡ last_key (keys_of (row_at m i)))
+  last_of_row i end h some e =
       let ks = keys_of (row_at m i) in
       let many : length ks ≡ length (row_at m i) = length-map (row_at m i) (λ p. p.0) in
-      let place : at ≡ before m i + (length ks - 1) = omega (arith, before_suc m i h, e, some, many) in
-      rw (place, s.seconds_are)
-      (get_pair (λ p. p.0) m i h (length ks - 1) (omega (arith, some, many)) ∙ slice_get-get_or ks (length ks - 1) [] (omega (arith, some, many)))
+      let at : end - 1 ≡ before m i + (length ks - 1) = omega (arith, before_suc m i h, e, some, many) in
+      (omega (arith, e, (row_within i h).1, before_suc m i h, some), rw (at, s.seconds_are) (nth_pair (λ p. p.0) m i h (length ks - 1) (omega (arith, some, many))))
 
   -- what a search of the first keys found
-  pub found_row : (order : Bytes → Bytes → Ordering) (key : Bytes) (r : Result ℕ ℕ) → Found (compared order k0s key) r → Found (compared order (firsts m) key) r
-  found_row order key r found = subst (λ (xs : List Bytes). Found (compared order xs key) r) s.firsts_are found
+  pub row_placed : {order : Order} → IsTotalOrder order → (key : Bytes) (r : Result ℕ ℕ) → IsMap order m → Found (compared order k0s key) r →
+      MatchResult r (IsAt (compared order (firsts m) key)) (IsGap (compared order (firsts m) key))
+  row_placed {order} total key r up found =
+      placed total key (firsts m) up r (subst (λ (xs : List Bytes). Found (compared order xs key) r) s.firsts_are found)
 
-  -- what a search of all first keys found
-  pub found_first : (order : Bytes → Bytes → Ordering) (key : Bytes) (r : Result ℕ ℕ) (end : ℕ) → end ≡ length m →
-      Found (slice_range (compared order k0s key) 0 end) r → Found (compared order (firsts m) key) r
-  found_first order key r end h found =
-      let all : length (compared order k0s key) ≤ end - 0 = omega (arith, length-map k0s (λ x. order x key), rows_count, h) in
-      found_row order key r (subst (λ (answers : List Ordering). Found answers r) (take_all (end - 0) (compared order k0s key) all) found)
+  -- which is a search of all first keys
+  pub all_answers : (order : Order) (key : Bytes) (end : ℕ) → end ≡ length m → slice_range (compared order k0s key) 0 end ≡ compared order k0s key
+  all_answers order key end h = take_all (end - 0) (compared order k0s key) (omega (arith, length-map k0s (λ x. order x key), rows_count, h))
 
-  -- what a search of a row's second keys found
-  pub found_pair : (order : Bytes → Bytes → Ordering) (key : Bytes) (r : Result ℕ ℕ) (i start end : ℕ) → i < length m → start ≡ before m i →
-      end ≡ before m (suc i) → Found (slice_range (compared order k1s key) start end) r → Found (compared order (keys_of (row_at m i)) key) r
-  found_pair order key r i start end h a b found =
+  -- what a search of a row's second keys found; it has no range outside of them
+  pub pair_placed : {order : Order} → IsTotalOrder order → (key : Bytes) (r : Result ℕ ℕ) (i start end : ℕ) → AllByRecursion (IsRow order) m → i < length m →
+      start ≡ before m i → end ≡ before m (suc i) → Found (slice_range (compared order k1s key) start end) r →
+      MatchResult r (IsAt (compared order (keys_of (row_at m i)) key)) (IsGap (compared order (keys_of (row_at m i)) key))
+  pair_placed {order} total key r i start end all h a b found =
       let same : slice_range (compared order k1s key) start end ≡ compared order (keys_of (row_at m i)) key =
-      compared_range order key k1s start end ∙ ap (λ (xs : List Bytes). compared order xs key) (rw (a, b) (row_keys i h)) in
-      subst (λ (answers : List Ordering). Found answers r) same found
+      compared_range order key k1s start end ∙ ap (λ (xs : List Bytes). compared order xs key) (row_range_is i start end h a b) in
+      placed total key (keys_of (row_at m i)) (row_well order m i all h).1 r (subst (λ (answers : List Ordering). Found answers r) same found)
+
+  pub in_range : (i start end : ℕ) → i < length m → start ≡ before m i → end ≡ before m (suc i) → (length k1s < end) ⊎ (end < start) → ⊥
+  in_range i start end h a b outside =
+      let w = row_within i h in
+      elim outside [ inl l ↦ omega (arith, w.1, a, b, l) | inr l ↦ omega (arith, w.0, a, b, l) ]
+
+  -- a row that is seen, as what its key has
+  pub row_seen_is : (i : ℕ) (c : Row) → i < length k0s → c ≡ row_seen m i → slice_get (values_of m) i ≡ Some c.pairs
+  row_seen_is i c h e = slice_get-get_or (values_of m) i [] (omega (arith, h, rows_count, length-map m (λ q. q.1))) ∙ ap (λ (r : Row). Some r.pairs) (sym e)
 
   -- the value of a pair of a row
   pub value_is : (i j at : ℕ) → i < length m → j < length (row_at m i) → at ≡ before m i + j → slice_get vs at ≡ slice_get (values_of (row_at m i)) j
   value_is i j at h k a = rw (a, s.values_are) (get_pair (λ p. p.1) m i h j k)
 
   -- the pairs of a row
-  pub row_pairs : (ks us : List Bytes) (i start end : ℕ) → ks ≡ k1s → us ≡ vs → i < length m → start ≡ before m i → end ≡ before m (suc i) →
-      zip (slice_range ks start end) (slice_range us start end) ≡ row_at m i
-  row_pairs ks us i start end a b h c d =
-      let values_in_row : slice_range vs (before m i) (before m (suc i)) ≡ values_of (row_at m i) =
-      ap (λ (xs : List Bytes). slice_range xs (before m i) (before m (suc i))) s.values_are ∙ row_range (λ p. p.1) m i h in
-      rw (a, b, c, d) (rw (row_keys i h, values_in_row) (zip_parts (row_at m i)))
+  pub row_pairs : (i start end : ℕ) → i < length m → start ≡ before m i → end ≡ before m (suc i) →
+      zip (slice_range k1s start end) (slice_range vs start end) ≡ row_at m i
+  row_pairs i start end h a b =
+      rw (a, b, s.seconds_are, s.values_are) (rw (row_range (λ p. p.0) m i h, row_range (λ p. p.1) m i h) (zip_parts (row_at m i)))
 
   -- where pairs are still counted, each end can be one more
   pub ends_below : length (seconds m) < 4294967295 → (k : ℕ) → k < length es → slice_index es k < 4294967295

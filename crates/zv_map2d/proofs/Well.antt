@@ -1,5 +1,5 @@
 -- Changes keep a map well formed.
-use Rattle.std.proofs.Common.{◌≡◌, ◌<◌, List, [], ◌∷◌, length, Option, Some, None, Result, Ok, Err, OnOk, OnErr, IfErr, refl, sym, subst, arith}
+use Rattle.std.proofs.Common.{◌≡◌, ◌<◌, List, [], ◌∷◌, length, Option, Some, None, Result, Ok, Err, OnOk, OnErr, sym, subst, arith}
 use Rattle.std.proofs.lemmas.List.Elements.{All-from_recursion}
 use Rattle.std.proofs.lemmas.Map.Views.{IfSome-lookup_from_All}
 use Rattle.std.specs.BTreeMap.{is_at}
@@ -13,17 +13,13 @@ use Rattle.std.specs.declared.cmp.Ordering.TheVariants.{Less, Equal, Greater}
 use Rattle.zv_map.proofs.Places.{IsMap-insert_entry, IsMap-without_key, values_with, values_without}
 use Rattle.zv_map.specs.Maps.{IsMap, values_of, look_up, insert_entry}
 use Rattle.zv_map2d.specs.Keys.{Bytes, Order}
-use Rattle.zv_map2d.specs.Outcomes.{IsLeftBy}
 use Rattle.zv_map2d.specs.Room.{IsSameMap}
 use Rattle.zv_map2d.specs.Rows.{Rows, IsWell, row, put, with_row, del}
 use Rattle.zv_map2d.specs.Views.{Map2d}
-use Rattle.zv_map2d.specs.declared.error.Map2dError.{Map2dError}
-use Rattle.zv_map2d.specs.declared.error.Map2dError.TheVariants.{TooLarge, TooMany, Memory}
-use Rattle.zv_map2d.proofs.Room.{same_map}
 
 module _ {X : Type 0} (Q : X → Type 0) where
   -- what holds of what each entry has holds of the values, and back
-  values_all : {P : Bytes × X → Type 0} → ((e : Bytes × X) → P e → Q e.1) → (m : List (Bytes × X)) → AllByRecursion P m → AllByRecursion Q (values_of m)
+  pub values_all : {P : Bytes × X → Type 0} → ((e : Bytes × X) → P e → Q e.1) → (m : List (Bytes × X)) → AllByRecursion P m → AllByRecursion Q (values_of m)
   values_all f [] all = tt
   values_all f (e ∷ m) all = (f e all.0, values_all f m all.1)
 
@@ -31,12 +27,16 @@ module _ {X : Type 0} (Q : X → Type 0) where
   all_values [] all = tt
   all_values (e ∷ m) all = (all.0, all_values m all.1)
 
--- what holds of each row holds of that of a key, or of no pairs
+-- what holds of each row holds of that of a key
+pub look_up_holds : (order : Order) (Q : List (Bytes × Bytes) → Type 0) (m : Rows) (k : Bytes) → AllByRecursion Q (values_of m) → IfSome (look_up order m k) Q
+look_up_holds order Q m k all = IfSome-lookup_from_All Q (is_at (order k)) m (All-from_recursion Q _ all)
+
+-- or of no pairs
 pub row_holds : (order : Bytes → Bytes → Ordering) (Q : List (Bytes × Bytes) → Type 0) (m : Rows) (k : Bytes) → AllByRecursion Q (values_of m) → Q [] →
     Q (row order m k)
 row_holds order Q m k all none =
     let by : (o : Option (List (Bytes × Bytes))) → IfSome o Q → Q (unwrap_or o []) = elim [ None ↦ λ h. none | Some r ↦ λ h. h ] in
-    by (look_up order m k) (IfSome-lookup_from_All Q (is_at (order k)) m (All-from_recursion Q _ all))
+    by (look_up order m k) (look_up_holds order Q m k all)
 
 -- a list with a key isn't empty
 insert_entry_some : {X : Type 0} (order : Bytes → Bytes → Ordering) (m : List (Bytes × X)) (k : Bytes) (x : X) → 0 < length (insert_entry order m k x)
@@ -77,26 +77,8 @@ pub none_well : (order0 order1 : Bytes → Bytes → Ordering) {m : Rows} → m 
 unfolding IsStrictlySortedBy
 none_well order0 order1 e = rw e (tt, tt)
 
--- ---- what calls leave
-
-module _ (old new : Map2d) where
-  -- a refusal leaves the same map
-  pub left_same : (e : Map2dError) → IsLeftBy old new e → IsSameMap old new
-  left_same TooLarge h = subst (IsSameMap old) (sym h) (same_map old)
-  left_same TooMany h = subst (IsSameMap old) (sym h) (same_map old)
-  left_same Memory h = h
-
-  -- and the very same, unless memory is wanted
-  pub left_unchanged : (e : Map2dError) → IsLeftBy old new e → (e ≡ Memory → ⊥) → new ≡ old
-  left_unchanged TooLarge h other = h
-  left_unchanged TooMany h other = h
-  left_unchanged Memory h other = absurd (other refl)
-
-  pub same_after : {A : Type 0} (r : Result A Map2dError) → IfErr r (IsLeftBy old new) → OnErr r (IsSameMap old new)
-  same_after (Ok x) h = tt
-  same_after (Err e) h = left_same e h
-
-  module _ (order0 order1 : Order) (m : Rows) (after : IsWell order0 order1 m) (before : IsWell order0 order1 old.rows) {A E : Type 0} where
-    pub changed_well : (r : Result A E) → OnOk r (new.rows ≡ m) → OnErr r (new.rows ≡ old.rows) → IsWell order0 order1 new.rows
-    changed_well (Ok x) ok err = subst (IsWell order0 order1) (sym ok) after
-    changed_well (Err e) ok err = subst (IsWell order0 order1) (sym err) before
+-- what a call leaves is well formed
+module _ (old new : Map2d) (order0 order1 : Order) (m : Rows) (after : IsWell order0 order1 m) (before : IsWell order0 order1 old.rows) {A E : Type 0} where
+  pub changed_well : (r : Result A E) → OnOk r (new.rows ≡ m) → OnErr r (IsSameMap old new) → IsWell order0 order1 new.rows
+  changed_well (Ok x) ok err = subst (IsWell order0 order1) (sym ok) after
+  changed_well (Err e) ok err = subst (IsWell order0 order1) (sym err.rows) before

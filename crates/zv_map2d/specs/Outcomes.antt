@@ -8,21 +8,17 @@ use Rattle.zv_map2d.specs.Room.{IsSameMap}
 use Rattle.zv_map2d.specs.Rows.{Rows, put, find, del}
 use Rattle.zv_map2d.specs.Views.{Map2d}
 use Rattle.zv_map2d.specs.declared.error.Map2dError.{Map2dError}
-use Rattle.zv_map2d.specs.declared.error.Map2dError.TheVariants.{TooLarge, TooMany, Memory}
-
--- a refusal leaves the map as it was; a failed allocation may leave vectors owned, with more room
-abbrev pub IsLeftBy : Map2d → Map2d → Map2dError → Type 0
-IsLeftBy old new TooLarge = new ≡ old
-IsLeftBy old new TooMany = new ≡ old
-IsLeftBy old new Memory = IsSameMap old new
+use Rattle.zv_map2d.specs.declared.error.Map2dError.TheVariants.{Memory}
 
 -- done, it leaves the rows m, and gives back the value v, if there is one; and it is refused unless
--- what is new fits, and a new pair doesn't meet a full map
+-- what is new fits, and a new pair doesn't meet a full map. A refusal leaves the map as it was; a
+-- failed allocation may leave vectors owned, with more room
 pub record Inserts {A : Type 0} (bytes : A → Bytes) (old new : Map2d) (m : Rows)
     (v : Option Bytes) (fits full : Bool) (r : Result (Option A) Map2dError) : Type 0 where
   pub rows : OnOk r (new.rows ≡ m)
   pub before : IfOk r (λ o. option_map bytes o ≡ v)
-  pub err : IfErr r (IsLeftBy old new)
+  pub err : OnErr r (IsSameMap old new)
+  pub unchanged : IfErr r (λ e. (e ≡ Memory → ⊥) → new ≡ old)
   pub refused : RefusedUnless fits full r
 
 -- v is put for the pair of keys, in a map with these size rules and orders of keys

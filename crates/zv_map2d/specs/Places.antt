@@ -1,5 +1,5 @@
 -- Where a pair of keys stands in a map, or would, and what a change at that place leaves.
-use Rattle.std.specs.Prelude.{ℕ, ◌+◌, ◌==◌, ◌&&◌, Bool, List, [], ◌∷◌, length, cond, Option}
+use Rattle.std.specs.Prelude.{◌+◌, ◌==◌, ◌&&◌, Bool, [], ◌∷◌, length, cond, Option}
 use Rattle.std.specs.Prelude.{Some, None, true, false}
 use Rattle.std.specs.List.{insert, remove}
 use Rattle.zv_map.specs.Maps.{IsAt, keys_of, set_value_at}

@@ -187,6 +187,7 @@ impl<'a, K0: ZvOrd, K1: ZvOrd, V: ZvKind> ZeroMap2dBorrowed<'a, K0, K1, V> {
     }
 
     /// How many pairs the row has.
+    #[tactic(auto, using(crate::proofs::Flat::before_suc))]
     pub(crate) fn row_len(&self, row: usize) -> usize
         requires { row < length (rows_in self.now) }
         ensures { result ≡ length (row_at (rows_in self.now) row) }

@@ -151,6 +151,7 @@ impl<
     }
 
     /// How many pairs the row has.
+    #[tactic(auto, using(crate::proofs::Flat::before_suc))]
     pub(crate) fn row_len(&self, row: usize) -> usize
         requires { row < length self.now.rows }
         ensures { result ≡ length (row_at self.now.rows row) }

@@ -6,7 +6,7 @@ ghost use Rattle.zv_map.specs.Maps.{set_value_at};
 ghost use Rattle.zv_ule.specs.Views.{element_of};
 ghost use Rattle.zv_map.specs.Reserved.{IsTaken};
 ghost use Rattle.std.specs.List.{insert, remove};
-ghost use Rattle.zv_map2d.specs.Outcomes.{Dels, Inserts, IsLeftBy, Puts};
+ghost use Rattle.zv_map2d.specs.Outcomes.{Dels, Inserts, Puts};
 ghost use Rattle.zv_map2d.specs.Fits.{fits, rule_of};
 ghost use Rattle.zv_map2d.specs.Places.{IsPlace, del_at, find_at, fits_at, put_at};
 ghost use Rattle.zv_map2d.specs.Refusals.{RefusedUnless, is_full};
@@ -90,7 +90,7 @@ impl<
         ensures same { IsSameMap self.old self.new }
         ensures ok { OnOk result
             (HasRoomFor C0.field C1.field D.field keys0 keys1 values puts self.new) }
-        ensures err { IfErr result (IsLeftBy self.old self.new) }
+        ensures unchanged { IfErr result (λ e. (e ≡ Map2dError.Memory → ⊥) → self.new ≡ self.old) }
         ensures refused { RefusedUnless true
             (nat_lt 4294967295 (length (seconds self.old.rows) + puts)) result }
     {
@@ -132,7 +132,8 @@ impl<
         }
     }
 
-    /// The place again: what is asked of it is told of the result, which a match takes apart.
+    /// The place again: what is found there, and what a removal leaves, is told of the result, which
+    /// a match takes apart.
     #[inline]
     fn same_place<Q0: ZvOrdArg<K0>, Q1: ZvOrdArg<K1>>(
         &self,
@@ -140,23 +141,30 @@ impl<
         _key0: &Q0,
         _key1: &Q1,
     ) -> Place
-        requires { IsPlace K0.cmp K1.cmp self.now.rows (Q0.bytes _key0.now) (Q1.bytes _key1.now)
-            place }
-        ensures { IsPlace K0.cmp K1.cmp self.now.rows (Q0.bytes _key0.now) (Q1.bytes _key1.now)
-            result }
+        requires well { IsWell K0.cmp K1.cmp self.now.rows }
+        requires place { IsPlace K0.cmp K1.cmp self.now.rows (Q0.bytes _key0.now)
+            (Q1.bytes _key1.now) place }
+        ensures place { IsPlace K0.cmp K1.cmp self.now.rows (Q0.bytes _key0.now)
+            (Q1.bytes _key1.now) result }
+        ensures found { find K0.cmp K1.cmp self.now.rows (Q0.bytes _key0.now) (Q1.bytes _key1.now)
+            ≡ find_at self.now.rows result }
+        ensures left { del K0.cmp K1.cmp self.now.rows (Q0.bytes _key0.now) (Q1.bytes _key1.now)
+            ≡ del_at self.now.rows result }
     {
         place
     }
 
     /// The value at the place of a pair of keys, if there is one.
+    #[tactic(auto, using(crate::proofs::Places::nothing_there))]
     pub(crate) fn value_there<Q0: ZvOrdArg<K0>, Q1: ZvOrdArg<K1>>(
         &self,
         place: Place,
         key0: &Q0,
         key1: &Q1,
     ) -> Option<VarRef<'_, V>>
-        requires { IsPlace K0.cmp K1.cmp self.now.rows (Q0.bytes key0.now) (Q1.bytes key1.now)
-            place }
+        requires well { IsWell K0.cmp K1.cmp self.now.rows }
+        requires place { IsPlace K0.cmp K1.cmp self.now.rows (Q0.bytes key0.now)
+            (Q1.bytes key1.now) place }
         ensures { option_map element_of result
             ≡ find K0.cmp K1.cmp self.now.rows (Q0.bytes key0.now) (Q1.bytes key1.now) }
     {
@@ -524,6 +532,7 @@ impl<
 
     /// Takes a pair of keys out, with its row where that was its only pair, and gives back the
     /// value that it had.
+    #[tactic(auto, using(crate::proofs::Places::nothing_there, crate::proofs::Places::nothing_gone))]
     pub(crate) fn remove<Q0: ZvOrdArg<K0>, Q1: ZvOrdArg<K1>>(
         &mut self,
         alloc: Global,
@@ -536,7 +545,8 @@ impl<
         ensures { Dels D.OwnedType.bytes K0.cmp K1.cmp self.old self.new
             (Q0.bytes key0.now) (Q1.bytes key1.now) result }
     {
-        let Place::Pair { row, pair } = self.place(key0, key1) else {
+        let place = self.place(key0, key1);
+        let Place::Pair { row, pair } = self.same_place(place, key0, key1) else {
             return Ok(None);
         };
         let old = self.take_out(alloc, row, pair)?;
@@ -545,6 +555,7 @@ impl<
 
     /// Takes the pair at the place of its keys out, with its row where that was its only pair, and
     /// says whether it was there.
+    #[tactic(auto, using(crate::proofs::Places::nothing_there, crate::proofs::Places::nothing_gone))]
     pub(crate) fn discard_at<Q0: ZvOrdArg<K0>, Q1: ZvOrdArg<K1>>(
         &mut self,
         place: Place,

@@ -129,6 +129,7 @@ impl<'l, 'a, K0: ZvOrd, K1: ZvOrd, V: ZvKind> Iterator for ZeroMap2dIter0<'l, 'a
     }
 
     #[inline]
+    #[tactic(auto, using(crate::proofs::RowIters::seen_count))]
     fn size_hint(&self) -> (usize, Option<usize>)
         ensures lower { IsWithinCount result.0 (item_count rows_left self.now) }
         ensures upper { IfSome result.1 (UpTo (item_count rows_left self.now)) }
@@ -156,6 +157,7 @@ impl<K0: ZvOrd, K1: ZvOrd, V: ZvKind> DoubleEndedIterator for ZeroMap2dIter0<'_,
 
 impl<K0: ZvOrd, K1: ZvOrd, V: ZvKind> ExactSizeIterator for ZeroMap2dIter0<'_, '_, K0, K1, V> {
     #[inline]
+    #[tactic(auto, using(crate::proofs::RowIters::seen_count))]
     fn len(&self) -> usize {
         self.end - self.next
     }

@@ -1,30 +1,24 @@
 use Rattle.std.proofs.Common.{sym, ◌∙◌}
-use Rattle.zv_map.proofs.Places.{look_up_at}
 use Rattle.zv_map2d.specs.Borrowed.{rows_in}
+use Rattle.zv_map2d.specs.declared.place.Place.TheVariants.{InRow, NewRow}
 use Rattle.zv_map2d.proofs.Bounds.{searches_in_row}
-use Rattle.zv_map2d.proofs.PairPlaces.{find_in_row, find_new_pair, find_new_row}
+use Rattle.zv_map2d.proofs.Places.{find_is, find_pair}
 use Rattle.zv_map2d.proofs.borrowed.ZeroMap2dBorrowed.get_2d_counted.Goals as goal
 
 pub returns-in_default-clause-value : goal.returns-in_default-clause-value
 returns-in_default-clause-value g c =
-    let k0 = g.Q0.ZvArg.bytes c.args.key0.now in
-    let k1 = g.Q1.ZvArg.bytes c.args.key1.now in
-    sym (find_new_row g.met.K0.ZvOrd.total g.met.K1.ZvOrd.total (rows_in c.args.self.now) k0 k1 _ c.in_default.ensures.place)
+    sym (find_is g.met.K0.ZvOrd.total g.met.K1.ZvOrd.total (rows_in c.args.self.now) (g.Q0.ZvArg.bytes c.args.key0.now) (g.Q1.ZvArg.bytes c.args.key1.now)
+    (NewRow _) c.in_default.ensures.place)
 
 pub returns-in_default-pair_place-clause-value : goal.returns-in_default-pair_place-clause-value
 returns-in_default-pair_place-clause-value g c =
-    let k0 = g.Q0.ZvArg.bytes c.args.key0.now in
-    let k1 = g.Q1.ZvArg.bytes c.args.key1.now in
-    sym (find_new_pair g.met.K0.ZvOrd.total g.met.K1.ZvOrd.total (rows_in c.args.self.now) k0 k1 c.in-Ok.row c.in-Ok.ensures.place _
-    c.in_default-pair_place.ensures.place)
+    sym (find_is g.met.K0.ZvOrd.total g.met.K1.ZvOrd.total (rows_in c.args.self.now) (g.Q0.ZvArg.bytes c.args.key0.now) (g.Q1.ZvArg.bytes c.args.key1.now)
+    (InRow c.in-Ok.row _) (c.in-Ok.ensures.place, c.in_default-pair_place.ensures.place))
 
 pub returns-clause-value : goal.returns-clause-value
 returns-clause-value g c =
-    let k0 = g.Q0.ZvArg.bytes c.args.key0.now in
-    let k1 = g.Q1.ZvArg.bytes c.args.key1.now in
-    c.value_at.ensures ∙ sym (
-    find_in_row g.met.K0.ZvOrd.total g.met.K1.ZvOrd.total (rows_in c.args.self.now) k0 k1 c.in-Ok.row c.in-Ok.ensures.place
-    ∙ look_up_at g.met.K1.ZvOrd.total k1 _ c.in-Ok-pair_place.pair c.in-Ok-pair_place.ensures.place)
+    c.value_at.ensures ∙ sym (find_pair g.met.K0.ZvOrd.total g.met.K1.ZvOrd.total (rows_in c.args.self.now) (g.Q0.ZvArg.bytes c.args.key0.now)
+    (g.Q1.ZvArg.bytes c.args.key1.now) c.in-Ok.row c.in-Ok-pair_place.pair (c.in-Ok.ensures.place, c.in-Ok-pair_place.ensures.place))
 
 pub returns-in_default-pair_place-clause-digits : goal.returns-in_default-pair_place-clause-digits
 returns-in_default-pair_place-clause-digits g c =

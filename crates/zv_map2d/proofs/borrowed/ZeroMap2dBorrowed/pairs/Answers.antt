@@ -1,4 +1,4 @@
-use Rattle.std.proofs.Common.{◌∙◌, refl, arith}
+use Rattle.std.proofs.Common.{◌∙◌, arith}
 use Rattle.zv_map2d.proofs.Seen.{row_pairs, row_within}
 use Rattle.zv_map2d.proofs.borrowed.ZeroMap2dBorrowed.pairs.Goals as goal
 
@@ -12,6 +12,4 @@ between-requires g c =
     }
 
 pub returns : goal.returns
-returns g c =
-    c.between.ensures
-    ∙ row_pairs c.args.self.now.flat _ _ c.args.row c.row_start-start.result c.row_end.result refl refl c.requires c.row_start-start.ensures c.row_end.ensures
+returns g c = c.between.ensures ∙ row_pairs c.args.self.now.flat c.args.row _ _ c.requires c.row_start-start.ensures c.row_end.ensures

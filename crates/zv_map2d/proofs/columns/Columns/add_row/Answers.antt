@@ -1,9 +1,7 @@
-use Rattle.std.proofs.Common.{◌+◌, length, sym, ap, subst, arith}
-use Rattle.std.proofs.lemmas.List.Edits.{length-insert}
-use Rattle.zv_map2d.specs.Room.{HasRoomFor}
+use Rattle.std.proofs.Common.{length, ap, arith}
 use Rattle.zv_map2d.proofs.Flat.{view_of}
 use Rattle.zv_map2d.proofs.Room.{spent}
-use Rattle.zv_map2d.proofs.Seen.{columns, ends_below, ends_count, few_more, rows_count, same_lists, seen}
+use Rattle.zv_map2d.proofs.Seen.{columns, ends_below, ends_count, few_more, one_more, row_goes, rows_count, same_lists, seen}
 use Rattle.zv_map2d.proofs.Splices.{row_added, shift_count, start_within}
 use Rattle.zv_map2d.proofs.columns.Columns.add_row.Goals as goal
 
@@ -11,24 +9,13 @@ pub zvl_insert_reserved-requires-clause-place : goal.zvl_insert_reserved-require
 zvl_insert_reserved-requires-clause-place g c = omega (arith, c.requires.row, rows_count (seen c.self.view_is c.self.invariant))
 
 pub zvl_insert_reserved-requires-2-clause-place : goal.zvl_insert_reserved-requires-2-clause-place
-zvl_insert_reserved-requires-2-clause-place g c = omega (
-  arith,
-  c.row_start-at.ensures,
-  start_within (λ p. p.0) c.args.self.now.rows c.args.row,
-  ap length (seen c.self.view_is c.self.invariant).seconds_are,
-)
+zvl_insert_reserved-requires-2-clause-place g c = (row_goes (seen c.self.view_is c.self.invariant) c.args.row _ c.row_start-at.ensures).0
 
 pub zvl_insert_reserved-requires-3-clause-place : goal.zvl_insert_reserved-requires-3-clause-place
-zvl_insert_reserved-requires-3-clause-place g c = omega (
-  arith,
-  c.row_start-at.ensures,
-  start_within (λ p. p.1) c.args.self.now.rows c.args.row,
-  ap length (seen c.self.view_is c.self.invariant).values_are,
-)
+zvl_insert_reserved-requires-3-clause-place g c = (row_goes (seen c.self.view_is c.self.invariant) c.args.row _ c.row_start-at.ensures).1
 
 pub shift-requires-clause-below : goal.shift-requires-clause-below
-shift-requires-clause-below g c =
-    λ k h. omega (arith, ends_below (seen c.self.view_is c.self.invariant) (omega (arith, c.requires.room.pairs)) k h)
+shift-requires-clause-below g c = λ k h. omega (arith, ends_below (seen c.self.view_is c.self.invariant) (omega (arith, c.requires.room.pairs)) k h)
 
 pub overflow_cast-at : goal.overflow_cast-at
 overflow_cast-at g c = omega (arith, c.row_start-at.ensures, start_within (λ p. p.0) c.args.self.now.rows c.args.row, c.requires.room.pairs)
@@ -43,31 +30,19 @@ insert_owned-requires-clause-place g c =
 
 pub invariant_of-self : goal.invariant_of-self
 invariant_of-self g c =
-    let added = row_added (seen c.self.view_is c.self.invariant) c.args.row c.row_start-at.result (g.Q0.ZvArg.bytes c.args.key0.now)
-    (g.Q1.ZvArg.bytes c.args.key1.now) (g.R.ZvArg.bytes c.args.value.now) c.requires.row c.row_start-at.ensures in
-    columns c.self.invariant.keys0 c.self.invariant.keys1 c.self.invariant.values
-    (same_lists c.zvl_insert_reserved.ensures.list (rw (← c.shift.ensures.values) c.insert_owned.ensures.values) c.zvl_insert_reserved-2.ensures.list
-    c.zvl_insert_reserved-3.ensures.list added)
+    columns c.self.invariant (same_lists c.zvl_insert_reserved.ensures.list (rw (← c.shift.ensures.values) c.insert_owned.ensures.values)
+    c.zvl_insert_reserved-2.ensures.list c.zvl_insert_reserved-3.ensures.list (row_added (seen c.self.view_is c.self.invariant) _ _ _ _ _ c.requires.row c.row_start-at.ensures))
 
 pub returns-clause-rows : goal.returns-clause-rows
 returns-clause-rows g c =
-    let added = row_added (seen c.self.view_is c.self.invariant) c.args.row c.row_start-at.result (g.Q0.ZvArg.bytes c.args.key0.now)
-    (g.Q1.ZvArg.bytes c.args.key1.now) (g.R.ZvArg.bytes c.args.value.now) c.requires.row c.row_start-at.ensures in
     view_of _ _ _ _ _ (same_lists c.zvl_insert_reserved.ensures.list (rw (← c.shift.ensures.values) c.insert_owned.ensures.values)
-    c.zvl_insert_reserved-2.ensures.list c.zvl_insert_reserved-3.ensures.list added)
+    c.zvl_insert_reserved-2.ensures.list c.zvl_insert_reserved-3.ensures.list (row_added (seen c.self.view_is c.self.invariant) _ _ _ _ _ c.requires.row c.row_start-at.ensures))
 
 pub returns-clause-spends : goal.returns-clause-spends
 returns-clause-spends g c =
-    let k1 = g.Q1.ZvArg.bytes c.args.key1.now in
-    let more = length-insert (g.C1.ZeroVecLike.list c.self.inside.keys1) c.row_start-at.result k1 (omega (
-      arith,
-      c.row_start-at.ensures,
-      start_within (λ p. p.0) c.args.self.now.rows c.args.row,
-      ap length (seen c.self.view_is c.self.invariant).seconds_are,
-    )) in
     spent c.self.view_is
     (record { owned = g.met.C0.ZvContainer.ready_owned _ c.zvl_insert_reserved.ensures.ready; spare = omega (arith, c.zvl_insert_reserved.ensures.spare) })
     (record { owned = c.insert_owned.ensures.owned; spare = omega (arith, c.shift.ensures.spare, c.insert_owned.ensures.spare) })
     (record { owned = g.met.C1.ZvContainer.ready_owned _ c.zvl_insert_reserved-2.ensures.ready; spare = omega (arith, c.zvl_insert_reserved-2.ensures.spare) })
     (record { owned = g.met.D.ZvContainer.ready_owned _ c.zvl_insert_reserved-3.ensures.ready; spare = omega (arith, c.zvl_insert_reserved-3.ensures.spare) })
-    (few_more 1 c.self.invariant (invariant_of-self g c) (omega (arith, more, ap length c.zvl_insert_reserved-2.ensures.list)))
+    (few_more 1 c.self.invariant (invariant_of-self g c) (one_more _ _ _ _ c.zvl_insert_reserved-2.ensures.list))

@@ -4,8 +4,7 @@ use Rattle.zv_map2d.proofs.columns.Columns.clear.Goals as goal
 
 pub invariant_of-self : goal.invariant_of-self
 invariant_of-self g c =
-    columns c.self.invariant.keys0 c.self.invariant.keys1 c.self.invariant.values (none c.zvl_clear.ensures.list c.remove_all.ensures.values
-    c.zvl_clear-2.ensures.list c.zvl_clear-3.ensures.list)
+    columns c.self.invariant (none c.zvl_clear.ensures.list c.remove_all.ensures.values c.zvl_clear-2.ensures.list c.zvl_clear-3.ensures.list)
 
 pub returns-clause-rows : goal.returns-clause-rows
 returns-clause-rows g c = view_of _ _ _ _ _ (none c.zvl_clear.ensures.list c.remove_all.ensures.values c.zvl_clear-2.ensures.list c.zvl_clear-3.ensures.list)

@@ -1,13 +1,12 @@
 use Rattle.std.proofs.Common.{refl}
-use Rattle.zv_map2d.proofs.SameBytes.{copy_of}
+use Rattle.zv_map2d.proofs.Room.{copy_of}
 use Rattle.zv_map2d.proofs.Seen.{columns, same_lists}
 use Rattle.zv_map2d.proofs.columns.Columns.clone.Goals as goal
 
 pub invariant_of-result : goal.invariant_of-result
 invariant_of-result g c =
-    let inv = c.self.invariant in
-    columns inv.keys0 inv.keys1 inv.values
-    (same_lists c.in_ok-keys0.ensures.list c.in_ok-joiner.ensures.values c.in_ok-keys1.ensures.list c.in_ok-values.ensures.list inv.flat)
+    columns c.self.invariant
+    (same_lists c.in_ok-keys0.ensures.list c.in_ok-joiner.ensures.values c.in_ok-keys1.ensures.list c.in_ok-values.ensures.list c.self.invariant.flat)
 
 pub returns : goal.returns
 returns g c =

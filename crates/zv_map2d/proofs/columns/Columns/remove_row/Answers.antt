@@ -1,20 +1,17 @@
-use Rattle.std.proofs.Common.{◌+◌, length, sym, ap, subst, arith}
-use Rattle.std.proofs.lemmas.List.Edits.{length-remove}
-use Rattle.zv_map2d.proofs.Flat.{pair_within, view_of}
+use Rattle.std.proofs.Common.{length, ap, arith}
+use Rattle.zv_map2d.proofs.Flat.{view_of}
 use Rattle.zv_map2d.proofs.Room.{spent}
-use Rattle.zv_map2d.proofs.Seen.{columns, ends_count, ends_some, few_more, same_lists, seen}
+use Rattle.zv_map2d.proofs.Seen.{columns, ends_count, ends_some, few_more, no_more, pair_stands, same_lists, seen}
 use Rattle.zv_map2d.proofs.Splices.{row_removed, shift_count}
 use Rattle.zv_map2d.proofs.columns.Columns.remove_row.Goals as goal
 
 pub zvl_discard-requires-2-clause-place : goal.zvl_discard-requires-2-clause-place
 zvl_discard-requires-2-clause-place g c =
-    let within = pair_within (λ p. p.0) c.args.self.now.rows c.args.row c.requires.row 0 (omega (arith, c.requires.single)) in
-    omega (arith, c.row_start-at.ensures, within, ap length (seen c.self.view_is c.self.invariant).seconds_are)
+    (pair_stands (seen c.self.view_is c.self.invariant) c.args.row 0 _ c.requires.row (omega (arith, c.requires.single)) (omega (arith, c.row_start-at.ensures))).0
 
 pub zvl_discard-requires-3-clause-place : goal.zvl_discard-requires-3-clause-place
 zvl_discard-requires-3-clause-place g c =
-    let within = pair_within (λ p. p.1) c.args.self.now.rows c.args.row c.requires.row 0 (omega (arith, c.requires.single)) in
-    omega (arith, c.row_start-at.ensures, within, ap length (seen c.self.view_is c.self.invariant).values_are)
+    (pair_stands (seen c.self.view_is c.self.invariant) c.args.row 0 _ c.requires.row (omega (arith, c.requires.single)) (omega (arith, c.row_start-at.ensures))).1
 
 pub shift-requires-clause-above : goal.shift-requires-clause-above
 shift-requires-clause-above g c = ends_some (seen c.self.view_is c.self.invariant) c.args.row c.requires.row (omega (arith, c.requires.single))
@@ -26,27 +23,18 @@ remove_owned-requires-clause-place g c =
 
 pub invariant_of-self : goal.invariant_of-self
 invariant_of-self g c =
-    let gone = row_removed (seen c.self.view_is c.self.invariant) c.args.row c.row_start-at.result c.requires.row c.requires.single c.row_start-at.ensures in
-    columns c.self.invariant.keys0 c.self.invariant.keys1 c.self.invariant.values
-    (same_lists c.zvl_discard.ensures.list (rw (← c.shift.ensures.values) c.remove_owned.ensures.values) c.zvl_discard-2.ensures.list
-    c.zvl_discard-3.ensures.list gone)
+    columns c.self.invariant (same_lists c.zvl_discard.ensures.list (rw (← c.shift.ensures.values) c.remove_owned.ensures.values)
+    c.zvl_discard-2.ensures.list c.zvl_discard-3.ensures.list (row_removed (seen c.self.view_is c.self.invariant) _ _ c.requires.row c.requires.single c.row_start-at.ensures))
 
 pub returns-clause-rows : goal.returns-clause-rows
 returns-clause-rows g c =
-    let gone = row_removed (seen c.self.view_is c.self.invariant) c.args.row c.row_start-at.result c.requires.row c.requires.single c.row_start-at.ensures in
-    view_of _ _ _ _ _ (same_lists c.zvl_discard.ensures.list (rw (← c.shift.ensures.values) c.remove_owned.ensures.values) c.zvl_discard-2.ensures.list
-    c.zvl_discard-3.ensures.list gone)
+    view_of _ _ _ _ _ (same_lists c.zvl_discard.ensures.list (rw (← c.shift.ensures.values) c.remove_owned.ensures.values)
+    c.zvl_discard-2.ensures.list c.zvl_discard-3.ensures.list (row_removed (seen c.self.view_is c.self.invariant) _ _ c.requires.row c.requires.single c.row_start-at.ensures))
 
 pub returns-clause-spends : goal.returns-clause-spends
 returns-clause-spends g c =
-    let less = length-remove (g.C1.ZeroVecLike.list c.self.inside.keys1) c.row_start-at.result (omega (
-      arith,
-      c.row_start-at.ensures,
-      pair_within (λ p. p.0) c.args.self.now.rows c.args.row c.requires.row 0 (omega (arith, c.requires.single)),
-      ap length (seen c.self.view_is c.self.invariant).seconds_are,
-    )) in
     spent c.self.view_is (record { owned = c.zvl_discard.ensures.owned; spare = omega (arith, c.zvl_discard.ensures.spare) })
     (record { owned = c.remove_owned.ensures.owned; spare = omega (arith, c.shift.ensures.spare, c.remove_owned.ensures.spare) })
     (record { owned = c.zvl_discard-2.ensures.owned; spare = omega (arith, c.zvl_discard-2.ensures.spare) })
     (record { owned = c.zvl_discard-3.ensures.owned; spare = omega (arith, c.zvl_discard-3.ensures.spare) })
-    (few_more 0 c.self.invariant (invariant_of-self g c) (omega (arith, less, ap length c.zvl_discard-2.ensures.list)))
+    (few_more 0 c.self.invariant (invariant_of-self g c) (no_more _ _ _ c.zvl_discard-2.ensures.list))
