@@ -1,7 +1,7 @@
 -- How a table is filled, from the first bucket to the last.
 use Rattle.std.proofs.Common.{◌≡◌, ℕ, ◌+◌, ◌<◌, ◌≤◌, ◌==◌, ◌&&◌, ◌||◌, ◌⊎◌, inl, inr, cond, Some, None, List, length, get_or, set, replicate, refl}
 use Rattle.std.proofs.Common.{ap, subst, sym, ◌∙◌, arith, length-set, get_or-set_same, get_or-set_other}
-use Rattle.std.proofs.lemmas.Bool.{cases_eq, cases_lt}
+use Rattle.std.proofs.lemmas.Bool.{cases_eq}
 use Rattle.std.proofs.lemmas.Bool.Decides.{nat_tests}
 use Rattle.std.proofs.lemmas.List.{get_or-replicate, length-replicate}
 use Rattle.zv_hash.specs.Splitting.{parts}
@@ -47,8 +47,7 @@ told_again hs ds places s g s' g' to from filled = record {
 -- a bucket of another size needs no turn
 pub turn_passed : (hs : List ℕ) (ds : List (ℕ × ℕ)) (places : List ℕ) (s g : ℕ) → (size hs g ≡ s → ⊥) → Filled hs ds places s (g + 1) → Filled hs ds places s g
 turn_passed hs ds places s g other filled =
-    told_again hs ds places s (g + 1) s g
-    (λ f h done. elim done [ inl less ↦ inl less | inr both ↦ inr (both.0, omega arith) ])
+    told_again hs ds places s (g + 1) s g (λ f h done. grind arith)
     (λ f h done. elim done [
       | inl less ↦ inl less
       | inr both ↦ elim (cases_eq f g) [ inl same ↦ absurd (other (subst (λ k. size hs k ≡ s) same both.0)) | inr apart ↦ inr (both.0, omega arith) ]
@@ -59,27 +58,14 @@ turn_passed hs ds places s g other filled =
 pub size_passed : (hs : List ℕ) (ds : List (ℕ × ℕ)) (places : List ℕ) (s t : ℕ) → t < s → ((g : ℕ) → g < length hs → size hs g < s → size hs g ≤ t)
     → Filled hs ds places s 0 → Filled hs ds places t (length hs)
 size_passed hs ds places s t less next filled =
-    told_again hs ds places s 0 t (length hs)
-    (λ f h done. elim done [ inl more ↦ inl (omega arith) | inr both ↦ inl (omega arith) ])
-    (λ f h done. elim done [
-      | inl more ↦ elim (cases_lt (size hs f) s) [
-        | inl small ↦ let least = next f h small in absurd (omega arith)
-        | inr large ↦ elim (cases_eq (size hs f) s) [ inl same ↦ inr (same, omega arith) | inr apart ↦ inl (omega arith) ]
-      ]
-      | inr both ↦ absurd (omega arith)
-    ])
-    filled
+    told_again hs ds places s 0 t (length hs) (λ f h done. grind arith) (λ f h done. let least = next f h in grind arith) filled
 
 -- a bucket is placed or it was before
 last_or_before : (hs : List ℕ) (f g : ℕ) → IsDone hs (size hs g) g f → (f ≡ g) ⊎ IsDone hs (size hs g) (g + 1) f
-last_or_before hs f g done =
-    elim done [
-      | inl less ↦ inr (inl less)
-      | inr both ↦ elim (cases_eq f g) [ inl same ↦ inl same | inr apart ↦ inr (inr (both.0, omega arith)) ]
-    ]
+last_or_before hs f g done = grind arith
 
 stays_done : (hs : List ℕ) (f g : ℕ) → IsDone hs (size hs g) (g + 1) f → IsDone hs (size hs g) g f
-stays_done hs f g done = elim done [ inl less ↦ inl less | inr both ↦ inr (both.0, omega arith) ]
+stays_done hs f g done = grind arith
 
 -- ---- one bucket more
 
