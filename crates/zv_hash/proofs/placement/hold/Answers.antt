@@ -33,6 +33,7 @@ loop-place-preserved c =
             let now : get_or (set places slot p) t 0 ≡ p = ap (λ s. get_or (set places slot p) s 0) there ∙ same in
             inl (subst (λ k. IsMember hs g k × (sent_to hs d k ≡ t)) (sym now) (record { within = within; bucket = at }, sym is ∙ sym there))
         | inr apart ↦
-            subst (λ k. (IsMember hs g k × (sent_to hs d k ≡ t)) ⊎ (k ≡ get_or c.args.places.now t 0)) (sym (get_or-set_other places slot t p 0 apart)) (old.others t)
+            subst (λ k. (IsMember hs g k × (sent_to hs d k ≡ t)) ⊎ (k ≡ get_or c.args.places.now t 0))
+            (sym (get_or-set_other places slot t p 0 apart)) (old.others t)
       ];
     }
