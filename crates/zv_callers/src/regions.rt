@@ -3,6 +3,7 @@ ghost use Rattle.std.specs.Prelude.{◌≡◌, Some, IfOk, OnErr, OnOk, is_none,
 ghost use Rattle.zv_ule.specs.Views.{element_of};
 ghost use Rattle.zv_map2d.specs.Image.{by_bytes};
 ghost use Rattle.zv_map2d.specs.Rows.{del, find, put};
+ghost use Rattle.zv_map2d.specs.Rows.{IsWell};
 
 use std::alloc::Global;
 use zv_map2d::{Map2dError, ZeroMap2d};
@@ -43,6 +44,14 @@ pub fn set_region(
     Ok(old.is_none())
 }
 
+/// A table's languages and scripts ascend, and each language has a script. The call is for proofs:
+/// it does nothing.
+fn in_order(table: &Regions<'_>)
+    ensures { IsWell by_bytes by_bytes table.now.rows }
+{
+    table.in_order();
+}
+
 /// Takes the region of a language in a script away, if it has one.
 pub fn clear_region(
     table: &mut Regions<'_>,
@@ -56,7 +65,7 @@ pub fn clear_region(
         (find by_bytes by_bytes table.new.rows language.now script.now ≡ None) }
     ensures err { OnErr result (table.new.rows ≡ table.old.rows) }
 {
-    table.in_order();
+    in_order(table);
     let _ = table.remove(alloc, &language, &script)?;
     Ok(())
 }

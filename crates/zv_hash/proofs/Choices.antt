@@ -10,18 +10,17 @@ use Rattle.zv_hash.proofs.Slots.{slot_below}
 -- ---- the order of buckets
 
 pub irreflexive : (hs : List ℕ) (g : ℕ) → IsBefore hs g g → ⊥
-irreflexive hs g h = elim h [ inl less ↦ omega arith | inr both ↦ omega arith ]
+irreflexive hs g h = grind arith
 
 pub asymmetric : (hs : List ℕ) (f g : ℕ) → IsBefore hs f g → IsBefore hs g f → ⊥
-asymmetric hs f g h k =
-    elim h [ inl less ↦ elim k [ inl more ↦ omega arith | inr both ↦ omega arith ] | inr same ↦ elim k [ inl more ↦ omega arith | inr both ↦ omega arith ] ]
+asymmetric hs f g h k = grind arith
 
 -- the buckets before g are those that are placed when it is its turn
 pub done_before : (hs : List ℕ) (f g : ℕ) → IsBefore hs f g → IsDone hs (size hs g) (g + 1) f
-done_before hs f g h = elim h [ inl less ↦ inl less | inr both ↦ inr (both.0, omega arith) ]
+done_before hs f g h = grind arith
 
 pub before_done : (hs : List ℕ) (f g : ℕ) → IsDone hs (size hs g) (g + 1) f → IsBefore hs f g
-before_done hs f g h = elim h [ inl less ↦ inl less | inr both ↦ inr (both.0, omega arith) ]
+before_done hs f g h = grind arith
 
 -- ---- free slots
 

@@ -1,7 +1,7 @@
 -- How a table is filled, from the first bucket to the last.
-use Rattle.std.proofs.Common.{◌≡◌, ℕ, ◌+◌, ◌<◌, ◌≤◌, ◌==◌, ◌&&◌, ◌||◌, ◌⊎◌, inl, inr, cond, true, false, Some, None, List, length, get_or, set, replicate, refl}
+use Rattle.std.proofs.Common.{◌≡◌, ℕ, ◌+◌, ◌<◌, ◌≤◌, ◌==◌, ◌&&◌, ◌||◌, ◌⊎◌, inl, inr, cond, Some, None, List, length, get_or, set, replicate, refl}
 use Rattle.std.proofs.Common.{ap, subst, sym, ◌∙◌, arith, length-set, get_or-set_same, get_or-set_other}
-use Rattle.std.proofs.lemmas.Bool.{cases_eq, cases_lt}
+use Rattle.std.proofs.lemmas.Bool.{cases_eq}
 use Rattle.std.proofs.lemmas.Bool.Decides.{nat_tests}
 use Rattle.std.proofs.lemmas.List.{get_or-replicate, length-replicate}
 use Rattle.zv_hash.specs.Splitting.{parts}
@@ -9,7 +9,7 @@ use Rattle.zv_hash.specs.Placement.{IsMember, bucket_at, size, displacement, sen
 use Rattle.zv_hash.specs.Placement.{Placed}
 use Rattle.zv_hash.specs.Chains.{FitsFree}
 use Rattle.zv_hash.specs.Filling.{IsDone, Filled}
-use Rattle.zv_hash.proofs.Pigeons.{pigeons}
+use Rattle.zv_hash.proofs.Permutations.{onto}
 use Rattle.zv_hash.proofs.Slots.{bucket_below, slot_below, member_size}
 use Rattle.zv_hash.proofs.Choices.{irreflexive, asymmetric, done_before, before_done, fits_free, free_fits, same_fits, same_choice, new_choice, other_slot}
 use Rattle.zv_hash.proofs.Choices.{own_slot}
@@ -47,8 +47,7 @@ told_again hs ds places s g s' g' to from filled = record {
 -- a bucket of another size needs no turn
 pub turn_passed : (hs : List ℕ) (ds : List (ℕ × ℕ)) (places : List ℕ) (s g : ℕ) → (size hs g ≡ s → ⊥) → Filled hs ds places s (g + 1) → Filled hs ds places s g
 turn_passed hs ds places s g other filled =
-    told_again hs ds places s (g + 1) s g
-    (λ f h done. elim done [ inl less ↦ inl less | inr both ↦ inr (both.0, omega arith) ])
+    told_again hs ds places s (g + 1) s g (λ f h done. grind arith)
     (λ f h done. elim done [
       | inl less ↦ inl less
       | inr both ↦ elim (cases_eq f g) [ inl same ↦ absurd (other (subst (λ k. size hs k ≡ s) same both.0)) | inr apart ↦ inr (both.0, omega arith) ]
@@ -59,27 +58,14 @@ turn_passed hs ds places s g other filled =
 pub size_passed : (hs : List ℕ) (ds : List (ℕ × ℕ)) (places : List ℕ) (s t : ℕ) → t < s → ((g : ℕ) → g < length hs → size hs g < s → size hs g ≤ t)
     → Filled hs ds places s 0 → Filled hs ds places t (length hs)
 size_passed hs ds places s t less next filled =
-    told_again hs ds places s 0 t (length hs)
-    (λ f h done. elim done [ inl more ↦ inl (omega arith) | inr both ↦ inl (omega arith) ])
-    (λ f h done. elim done [
-      | inl more ↦ elim (cases_lt (size hs f) s) [
-        | inl small ↦ let least = next f h small in absurd (omega arith)
-        | inr large ↦ elim (cases_eq (size hs f) s) [ inl same ↦ inr (same, omega arith) | inr apart ↦ inl (omega arith) ]
-      ]
-      | inr both ↦ absurd (omega arith)
-    ])
-    filled
+    told_again hs ds places s 0 t (length hs) (λ f h done. grind arith) (λ f h done. let least = next f h in grind arith) filled
 
 -- a bucket is placed or it was before
 last_or_before : (hs : List ℕ) (f g : ℕ) → IsDone hs (size hs g) g f → (f ≡ g) ⊎ IsDone hs (size hs g) (g + 1) f
-last_or_before hs f g done =
-    elim done [
-      | inl less ↦ inr (inl less)
-      | inr both ↦ elim (cases_eq f g) [ inl same ↦ inl same | inr apart ↦ inr (inr (both.0, omega arith)) ]
-    ]
+last_or_before hs f g done = grind arith
 
 stays_done : (hs : List ℕ) (f g : ℕ) → IsDone hs (size hs g) (g + 1) f → IsDone hs (size hs g) g f
-stays_done hs f g done = elim done [ inl less ↦ inl less | inr both ↦ inr (both.0, omega arith) ]
+stays_done hs f g done = grind arith
 
 -- ---- one bucket more
 
@@ -166,42 +152,19 @@ all_chosen hs ds places filled = record {
 found_slot : (a b n : ℕ) (s t : ℕ) → 0 < a + b → 0 < n → t ≡ s → cond ((a == 0 && b == 0) || n == 0) None (Some t) ≡ Some s
 found_slot a b n s t pos some is = grind (arith, nat_tests)
 
-eq_true : (a b : ℕ) → a ≡ b → (a == b) ≡ true
-eq_true a b h = grind (arith, nat_tests)
-
-eq_false : (a b : ℕ) → (a ≡ b → ⊥) → (a == b) ≡ false
-eq_false a b h = grind (arith, nat_tests)
-
 pub all_placed : (hs : List ℕ) (ds : List (ℕ × ℕ)) (places : List ℕ) → Filled hs ds places 0 (length hs) → Placed hs ds places
 all_placed hs ds places filled =
     let n : ℕ = length hs in
     let chosen = all_chosen hs ds places filled in
     let pos : (i : ℕ) → i < n → 0 < size hs (bucket_at hs i) = λ i h. member_size hs (bucket_at hs i) i (record { within = h; bucket = refl }) in
     let held : (i : ℕ) → i < n → get_or places (slot_at hs ds i) 0 ≡ i = λ i h. filled.held i h (inl (pos i h)) in
-    let full : (s : ℕ) → s < n → get_or places s 0 < n = λ s h. elim (cases_lt (get_or places s 0) n) [
-      | inl there ↦ there
-      | inr free ↦ absurd (pigeons n (λ k. cond (k == n) s (slot_at hs ds k))
-          (λ k within. elim (cases_eq k n) [
-            | inl last ↦ rw (eq_true k n last) h
-            | inr less ↦ rw (eq_false k n less) (slot_below n (displacement ds (bucket_at hs k)) (parts (get_or hs k 0)) (omega arith))
-          ])
-          (λ i j less within same.
-          let i_less : (i == n) ≡ false = eq_false i n (λ e. omega arith) in
-          let i_slot : cond (i == n) s (slot_at hs ds i) ≡ slot_at hs ds i = rw i_less refl in
-          elim (cases_eq j n) [
-            | inl last ↦
-                let e : slot_at hs ds i ≡ s = sym i_slot ∙ same ∙ rw (eq_true j n last) refl in
-                let at = held i (omega arith) in
-                let there : get_or places s 0 ≡ i = ap (λ k. get_or places k 0) (sym e) ∙ at in
-                omega arith
-            | inr apart ↦
-                let e : slot_at hs ds i ≡ slot_at hs ds j = sym i_slot ∙ same ∙ rw (eq_false j n apart) refl in
-                let at = held i (omega arith) in
-                let also = held j (omega arith) in
-                let both : get_or places (slot_at hs ds i) 0 ≡ get_or places (slot_at hs ds j) 0 = ap (λ k. get_or places k 0) e in
-                omega arith
-          ]))
-    ] in
+    let apart : (i j : ℕ) → i < j → j < n → slot_at hs ds i ≡ slot_at hs ds j → ⊥ = λ i j less within same.
+    let is : i ≡ j = sym (held i (omega arith)) ∙ ap (λ k. get_or places k 0) same ∙ held j within in
+    omega arith in
+    let full : (s : ℕ) → s < n → get_or places s 0 < n = λ s h.
+    let from = onto n (slot_at hs ds) (λ k _. slot_below n (displacement ds (bucket_at hs k)) (parts (get_or hs k 0)) (omega arith)) apart s h in
+    let is : get_or places s 0 ≡ from.0 = ap (λ k. get_or places k 0) (sym from.2) ∙ held from.0 from.1 in
+    omega (arith, from.1) in
     let back : (s : ℕ) → s < n → slot_at hs ds (get_or places s 0) ≡ s = λ s h. (filled.free s h (full s h)).1 in
     record {
       len = filled.len;

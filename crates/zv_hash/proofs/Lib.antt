@@ -1,4 +1,4 @@
-mod Pigeons
+mod Permutations
 mod Remainders
 mod Slots
 mod Walk
@@ -7,4 +7,3 @@ mod Choices
 mod Fillings
 mod Decide
 mod Stuck
-mod Permutations

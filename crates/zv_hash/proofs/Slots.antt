@@ -1,8 +1,9 @@
 -- Buckets and slots are below the number of hashes, and a bucket with a member has a size.
-use Rattle.std.proofs.Common.{◌≡◌, ℕ, zero, suc, ◌+◌, ◌*◌, ◌/◌, ◌%◌, ◌^◌, ◌<◌, ◌==◌, Bool, true, false, cond, List, [], ◌∷◌, length, get_or, refl, arith, inl}
+use Rattle.std.proofs.Common.{◌≡◌, ℕ, ◌+◌, ◌*◌, ◌/◌, ◌%◌, ◌^◌, ◌<◌, ◌≤◌, ◌==◌, Bool, true, false, cond, List, length, get_or, arith, inl}
 use Rattle.std.proofs.Common.{inr}
 use Rattle.std.specs.List.{count_by}
-use Rattle.std.proofs.lemmas.List.Recursion.{is_count_by}
+use Rattle.std.proofs.lemmas.List.Elements.{All-from_get_or}
+use Rattle.std.proofs.lemmas.List.Sums.{get_or-le-sum_by, sum_by-le}
 use Rattle.std.proofs.lemmas.Nat.{mod_below}
 use Rattle.std.proofs.lemmas.Bool.{cases_lt}
 use Rattle.std.proofs.lemmas.Bool.Decides.{nat_tests}
@@ -18,33 +19,16 @@ pub slot_below : (m : ℕ) (d f : ℕ × ℕ) → 0 < m → slot_of m d f < m
 unfolding slot_of
 slot_below m d f pos = mod_below ((f.1 * d.0 + f.0 + d.1) % 2 ^ 32) m pos
 
--- the count by recursion
-tally : (ℕ → Bool) → List ℕ → ℕ
-tally p [] = 0
-tally p (x ∷ xs) = cond (p x) (1 + tally p xs) (tally p xs)
-
-tally_pos : (p : ℕ → Bool) (xs : List ℕ) (i : ℕ) → i < length xs → p (get_or xs i 0) ≡ true → 0 < tally p xs
-unfolding tally
-tally_pos p [] i h e = absurd (omega arith)
-tally_pos p (x ∷ xs) zero h e = rw e (omega arith)
-tally_pos p (x ∷ xs) (suc i) h e =
-    let later = tally_pos p xs i (omega arith) e in elim (p x) as (λ b. 0 < cond b (1 + tally p xs) (tally p xs)) [ true ↦ omega arith | false ↦ later ]
-
 pub count_pos : (p : ℕ → Bool) (xs : List ℕ) (i : ℕ) → i < length xs → p (get_or xs i 0) ≡ true → 0 < count_by p xs
-unfolding tally
-count_pos p xs i h e = rw (← is_count_by (tally p) p refl (λ _ _. refl) xs) (tally_pos p xs i h e)
+count_pos p xs i h e = let one = rw e at (get_or-le-sum_by (λ x. cond (p x) 1 0) xs i 0 h) in omega arith
 
 pub member_size : (hs : List ℕ) (g i : ℕ) → IsMember hs g i → 0 < size hs g
 member_size hs g i m = count_pos (λ h. bucket_of (length hs) h == g) hs i m.within (let at = m.bucket in grind (arith, nat_tests))
 
-tally_none : (p : ℕ → Bool) (xs : List ℕ) → ((i : ℕ) → i < length xs → p (get_or xs i 0) ≡ false) → tally p xs ≡ 0
-unfolding tally
-tally_none p [] h = refl
-tally_none p (x ∷ xs) h = let first : p x ≡ false = h 0 (omega arith) in rw first (tally_none p xs (λ i l. h (suc i) (omega arith)))
-
 count_none : (p : ℕ → Bool) (xs : List ℕ) → ((i : ℕ) → i < length xs → p (get_or xs i 0) ≡ false) → count_by p xs ≡ 0
-unfolding tally
-count_none p xs h = rw (← is_count_by (tally p) p refl (λ _ _. refl) xs) (tally_none p xs h)
+count_none p xs h =
+    let most = sum_by-le (λ x. cond (p x) 1 0) 0 xs (All-from_get_or (λ x. cond (p x) 1 0 ≤ 0) xs 0 (λ i l. rw (h i l) (omega arith))) in
+    omega arith
 
 differ : (a b : ℕ) → (a ≡ b → ⊥) → (a == b) ≡ false
 differ a b h = grind (arith, nat_tests)

@@ -1,6 +1,5 @@
 -- Buckets choose alike wherever all before them do, so a bucket that is stuck is stuck in every table.
 use Rattle.std.proofs.Common.{◌≡◌, ℕ, zero, suc, ◌+◌, ◌<◌, ◌≤◌, ◌==◌, inl, inr, List, length, ap, sym, arith, refl, ◌∙◌, slice_index}
-use Rattle.std.proofs.lemmas.Bool.{cases_order}
 use Rattle.std.proofs.lemmas.List.Sums.{count_by-le-length}
 use Rattle.zv_hash.specs.Splitting.{bucket_of}
 use Rattle.zv_hash.specs.Placement.{bucket_at, size, displacement, slot_at, sent_to, IsBefore, IsEarlier, IsChoice, IsStuck, Chosen}
@@ -8,22 +7,18 @@ use Rattle.zv_hash.proofs.Choices.{same_fits}
 use Rattle.zv_hash.proofs.Slots.{bucket_below, member_size}
 
 transitive : (hs : List ℕ) (e f g : ℕ) → IsBefore hs e f → IsBefore hs f g → IsBefore hs e g
-transitive hs e f g h k =
-    elim h [
-      | inl more ↦ elim k [ inl most ↦ inl (omega arith) | inr both ↦ inl (omega arith) ]
-      | inr same ↦ elim k [ inl most ↦ inl (omega arith) | inr both ↦ inr (omega arith, omega arith) ]
-    ]
+transitive hs e f g h k = grind arith
+
+-- of two buckets one is before the other, or they are the same
+same_turn : (hs : List ℕ) (f g : ℕ) → (IsBefore hs f g → ⊥) → (IsBefore hs g f → ⊥) → f ≡ g
+same_turn hs f g h k = grind arith
 
 -- of two displacements one is earlier, or they are the same
+same_numbers : (a b c d : ℕ) → (IsEarlier (a, b) (c, d) → ⊥) → (IsEarlier (c, d) (a, b) → ⊥) → (a ≡ c) × (b ≡ d)
+same_numbers a b c d h k = grind arith
+
 apart : (d e : ℕ × ℕ) → (IsEarlier d e → ⊥) → (IsEarlier e d → ⊥) → d ≡ e
-apart d e h k =
-    elim (cases_order d.0 e.0) [
-      | inl first ↦ elim (cases_order d.1 e.1) [
-        | inl second ↦ ap (λ x. (x, d.1)) first ∙ ap (λ y. (e.0, y)) second
-        | inr other ↦ elim other [ inl less ↦ absurd (h (inr (first, less))) | inr more ↦ absurd (k (inr (sym first, more))) ]
-      ]
-      | inr other ↦ elim other [ inl less ↦ absurd (h (inl less)) | inr more ↦ absurd (k (inl more)) ]
-    ]
+apart d e h k = let same = same_numbers d.0 d.1 e.0 e.1 h k in ap (λ x. (x, d.1)) same.0 ∙ ap (λ y. (e.0, y)) same.1
 
 module _ (hs : List ℕ) (ds es : List (ℕ × ℕ)) (P : ℕ → Type 0) (some : (f : ℕ) → P f → f < length hs) (one : (f : ℕ) → P f → IsChoice hs ds f)
     (other : (f : ℕ) → P f → IsChoice hs es f) (before : (e f : ℕ) → P f → e < length hs → 0 < size hs e → IsBefore hs e f → P e) where
@@ -100,17 +95,4 @@ later_not_stuck hs g h stuck later b =
 
 -- and one bucket alone is stuck
 pub one_stuck : (hs : List ℕ) (g h : ℕ) → IsStuck hs g → IsStuck hs h → g ≡ h
-one_stuck hs g h p q =
-    elim (cases_order (size hs g) (size hs h)) [
-      | inl same ↦ elim (cases_order g h) [
-        | inl is ↦ is
-        | inr other ↦ elim other [
-          | inl less ↦ absurd (later_not_stuck hs h g q p (inr (sym same, less)))
-          | inr more ↦ absurd (later_not_stuck hs g h p q (inr (same, more)))
-        ]
-      ]
-      | inr other ↦ elim other [
-        | inl less ↦ absurd (later_not_stuck hs h g q p (inl less))
-        | inr more ↦ absurd (later_not_stuck hs g h p q (inl more))
-      ]
-    ]
+one_stuck hs g h p q = same_turn hs g h (later_not_stuck hs g h p q) (later_not_stuck hs h g q p)

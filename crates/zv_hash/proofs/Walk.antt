@@ -4,10 +4,6 @@ use Rattle.std.proofs.lemmas.Bool.{cases_order}
 use Rattle.zv_hash.specs.Placement.{IsMember, bucket_at}
 use Rattle.zv_hash.specs.Chains.{IsNext}
 
--- no member stands before the first
-pub below_first : (hs : List ℕ) (g p : ℕ) (P : ℕ → Type 0) → IsNext hs g 0 p → (i : ℕ) → IsMember hs g i → i < p → P i
-below_first hs g p P next i m h = absurd (next.none i (omega arith) h m.bucket)
-
 -- what holds of the members before one, and of it, holds of those before the next
 pub below_next : (hs : List ℕ) (g p q : ℕ) (P : ℕ → Type 0) → bucket_at hs p ≡ g → IsNext hs (bucket_at hs p) (p + 1) q
     → ((i : ℕ) → IsMember hs g i → i < p → P i) → P p → (i : ℕ) → IsMember hs g i → i < q → P i

@@ -1,9 +1,10 @@
 // The hashes of each bucket as a chain of places.
-ghost use Rattle.std.specs.Prelude.{◌≡◌, ℕ, ◌<◌, ◌≤◌, ◌^◌, length, replicate, slice_index};
+ghost use Rattle.std.specs.Prelude.{◌≡◌, ℕ, ◌<◌, ◌≤◌, ◌^◌, IfOk, length, replicate, slice_index};
 ghost use Rattle.zv_hash.specs.Chains.{AreChains};
 ghost use Rattle.zv_hash.specs.Placement.{sent_to, size};
 
 use crate::splitting::{bucket_of_hash, parts_of, slot_in};
+use std::alloc::{AllocError, Global};
 
 /// The hashes, for each bucket its first place, and for each place the next of its bucket. Where
 /// there is none it is the number of hashes.
@@ -50,7 +51,7 @@ pub fn count_sizes(hashes: &[u64], sizes: &mut [u32])
 }
 
 /// Links the places of each bucket, from the last on.
-pub fn link(hashes: &[u64], firsts: &mut [usize], nexts: &mut [usize])
+fn link(hashes: &[u64], firsts: &mut [usize], nexts: &mut [usize])
     requires ends { firsts.old ≡ replicate (length hashes.now) (length hashes.now) }
     requires room { length nexts.old ≡ length hashes.now }
     ensures { AreChains hashes.now 0 firsts.new nexts.new }
@@ -61,5 +62,25 @@ pub fn link(hashes: &[u64], firsts: &mut [usize], nexts: &mut [usize])
         let bucket = bucket_of_hash(hashes[place], hashes.len());
         nexts[place] = firsts[bucket];
         firsts[bucket] = place;
+    }
+}
+
+/// What the chains of hashes refer to.
+#[derive(Drop)]
+pub struct Links {
+    pub firsts: Vec<usize>,
+    pub nexts: Vec<usize>,
+}
+
+impl Links {
+    /// The links of hashes.
+    pub fn new(alloc: Global, hashes: &[u64]) -> Result<Self, AllocError>
+        ensures { IfOk result (λ links. AreChains hashes.now 0 links.firsts.items
+            links.nexts.items) }
+    {
+        let mut firsts = vec![in alloc; hashes.len(); hashes.len()]?;
+        let mut nexts = vec![in alloc; 0usize; hashes.len()]?;
+        link(hashes, &mut firsts, &mut nexts);
+        Ok(Links { firsts, nexts })
     }
 }

@@ -8,7 +8,7 @@ ghost use Rattle.zv_hash.specs.Filling.{Filled};
 ghost use Rattle.zv_hash.specs.Refusals.{IsRefusal};
 ghost use Rattle.zv_hash.specs.Placement.{Chosen, IsMember, IsStuck, Placed, sent_to, size};
 
-use crate::chains::{Chains, count_sizes, link};
+use crate::chains::{Chains, Links, count_sizes};
 use crate::error::HashError;
 use crate::search::first_fit;
 use std::alloc::Global;
@@ -174,14 +174,12 @@ fn place_hashes(
         (IsRefusal hashes.now) }
 {
     let mut sizes = vec![in alloc; 0u32; hashes.len()]?;
-    let mut firsts = vec![in alloc; hashes.len(); hashes.len()]?;
-    let mut nexts = vec![in alloc; 0usize; hashes.len()]?;
     count_sizes(hashes, &mut sizes);
-    link(hashes, &mut firsts, &mut nexts);
+    let links = Links::new(alloc, hashes)?;
     let chains = Chains {
         hashes,
-        firsts: &firsts,
-        nexts: &nexts,
+        firsts: &links.firsts,
+        nexts: &links.nexts,
     };
     place_all(chains, &sizes, displacements, places).map_err(|bucket| HashError::NoPlace { bucket })
 }

@@ -3,7 +3,7 @@ ghost use Rattle.std.specs.Prelude.{◌≡◌, ℕ, ◌<◌, ◌^◌, IfOk, Matc
 ghost use Rattle.std.specs.Prelude.{slice_index};
 ghost use Rattle.zv_hash.specs.Repeats.{AreDistinctBelow, IsFirstRepeat};
 
-use crate::chains::{Chains, link};
+use crate::chains::{Chains, Links};
 use crate::splitting::bucket_of_hash;
 use std::alloc::{AllocError, Global};
 
@@ -46,12 +46,10 @@ pub fn first_repeat(alloc: Global, hashes: &[u64]) -> Result<Option<usize>, Allo
     ensures { IfOk result (λ found. MatchOption found
         (AreDistinctBelow hashes.now (length hashes.now)) (IsFirstRepeat hashes.now)) }
 {
-    let mut firsts = vec![in alloc; hashes.len(); hashes.len()]?;
-    let mut nexts = vec![in alloc; 0usize; hashes.len()]?;
-    link(hashes, &mut firsts, &mut nexts);
+    let links = Links::new(alloc, hashes)?;
     Ok(find_repeat(Chains {
         hashes,
-        firsts: &firsts,
-        nexts: &nexts,
+        firsts: &links.firsts,
+        nexts: &links.nexts,
     }))
 }

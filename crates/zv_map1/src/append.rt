@@ -91,10 +91,10 @@ impl<
             (fits (rule_of C.takes_insert D.takes_insert D.takes_replace) K.cmp self.old.pairs
             (Q.bytes key.now) (R.bytes value.now)) result }
     {
-        if self.is_above(key) {
-            return self.add(alloc, self.len(), key, value);
+        if !self.is_above(key) {
+            return self.insert(alloc, key, value);
         }
-        self.insert(alloc, key, value)
+        self.add(alloc, self.len(), key, value)
     }
 
     /// The map of pairs in any order, with the last value given for each key.

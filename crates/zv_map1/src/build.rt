@@ -11,6 +11,7 @@ ghost use Rattle.zv_map1.specs.Room.{CanGrowBy, IsSameMap, KeepsRoom};
 use crate::borrowed::ZeroMapBorrowed;
 use crate::error::VecsError;
 use crate::map::MapOver;
+use crate::room::room_of;
 use std::alloc::Global;
 use std::marker::PhantomData;
 use zv_map::{MutableZeroVecLike, ZeroVecSearch, ZvContainer};
@@ -117,12 +118,8 @@ impl<
         ensures room { OnOk result (CanGrowBy (additional * C.element_room)
             (additional * D.element_room) self.new) }
     {
-        let keys = additional
-            .checked_mul(self.keys.zvl_element_room())
-            .ok_or(NoMemory)?;
-        let values = additional
-            .checked_mul(self.values.zvl_element_room())
-            .ok_or(NoMemory)?;
+        let keys = room_of(additional, self.keys.zvl_element_room())?;
+        let values = room_of(additional, self.values.zvl_element_room())?;
         self.reserve_bytes(alloc, keys, values)
     }
 

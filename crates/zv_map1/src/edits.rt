@@ -13,6 +13,7 @@ ghost use Rattle.zv_map1.specs.Views.{insert_entry, keys_of, look_up, nth, set_v
 ghost use Rattle.zv_map1.specs.Views.{without_key};
 
 use crate::map::MapOver;
+use crate::room::with_field;
 use std::alloc::Global;
 use zv_map::{MapError, MutableZeroVecLike};
 use zv_ule::{NoMemory, ZvArg, ZvKind, ZvOrd, ZvOrdArg};
@@ -54,8 +55,8 @@ impl<
             (length (R.bytes value.now) + D.field) self.new) }
     {
         let (key_field, value_field) = (self.keys.zvl_field(), self.values.zvl_field());
-        let keys = key.arg_len().checked_add(key_field).ok_or(NoMemory)?;
-        let values = value.arg_len().checked_add(value_field).ok_or(NoMemory)?;
+        let keys = with_field(key.arg_len(), key_field)?;
+        let values = with_field(value.arg_len(), value_field)?;
         self.reserve_bytes(alloc, keys, values)
     }
 

@@ -12,6 +12,7 @@ mod edits;
 pub mod error;
 pub mod laws;
 pub mod map;
+mod room;
 mod search;
 
 pub use borrowed::ZeroMapBorrowed;

@@ -9,4 +9,4 @@ pub returns-clause-gone : goal.returns-clause-gone
 returns-clause-gone c =
     ap (λ (m : Rows). find by_bytes by_bytes m c.args.language.now c.args.script.now) c.in_ok-remove.ensures.rows
     ∙ del_is_gone by_bytes by_bytes nat_list_cmp_total nat_list_cmp_total
-    c.args.table.now.rows c.args.language.now c.args.script.now c.in_order.ensures.ascending
+    c.args.table.now.rows c.args.language.now c.args.script.now c.in_order.ensures

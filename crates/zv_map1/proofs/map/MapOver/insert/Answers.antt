@@ -1,13 +1,7 @@
-use Rattle.std.proofs.Common.{refl}
-use Rattle.zv_map.proofs.Places.{at_within}
 use Rattle.zv_map1.specs.Fits.{rule_of}
 use Rattle.zv_map1.proofs.Found.{inserts_at, inserts_gap}
 use Rattle.zv_map1.proofs.Left.{same_after, unchanged_after}
 use Rattle.zv_map1.proofs.map.MapOver.insert.Goals as goal
-
-pub replace_value-requires : goal.replace_value-requires
-replace_value-requires g c κs =
-    ((refl, tt), (at_within g.K.ZvOrd.cmp (g.Q.ZvArg.bytes c.args.key.now) c.args.self.now.pairs c.in-Ok.at c.in-Ok.ensures, c.requires.value))
 
 pub returns-in-Ok : goal.returns-in-Ok
 returns-in-Ok g c =

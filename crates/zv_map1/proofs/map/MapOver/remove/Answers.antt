@@ -1,11 +1,7 @@
-use Rattle.std.proofs.Common.{◌∙◌, refl, sym, ap, Some}
-use Rattle.zv_map.proofs.Places.{at_within, look_up_gap, without_key_at, without_key_gap}
+use Rattle.std.proofs.Common.{◌∙◌, sym, ap, Some}
+use Rattle.zv_map.proofs.Places.{look_up_gap, without_key_at, without_key_gap}
 use Rattle.zv_map1.proofs.Found.{value_at}
 use Rattle.zv_map1.proofs.map.MapOver.remove.Goals as goal
-
-pub take_out-requires : goal.take_out-requires
-take_out-requires g c κs =
-    ((refl, tt), at_within g.K.ZvOrd.cmp (g.Q.ZvArg.bytes c.args.key.now) c.args.self.now.pairs c.in-Ok.at c.in-Ok.ensures)
 
 pub returns-in_default-clause-pairs : goal.returns-in_default-clause-pairs
 returns-in_default-clause-pairs g c =
