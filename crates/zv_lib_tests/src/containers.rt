@@ -32,7 +32,7 @@ fn finds_numbers_by<C: ZeroVecSearchBy<u16>>(rt: &impl Abort, list: &C) {
 }
 
 // A container of these bytes borrows them, and the view that it gives makes it again.
-fn is_borrowed<'a, T: ZvKind, C: MutableZeroVecLike<'a, T> + Drop>(
+fn is_borrowed<'a, T: ZvKind, C: MutableZeroVecLike<'a, T>>(
     rt: &impl Abort,
     list: &C,
     bytes: &[u8],
@@ -93,28 +93,6 @@ fn is_cleared<T: ZvKind, C: ZvContainer<T>>(list: &mut C) -> bool {
     list.zvl_is_empty()
 }
 
-#[test]
-fn numbers_are_searched(rt: HostRuntime) -> Result<(), Fail> {
-    let bytes = [1, 0, 3, 0, 5, 0];
-    let list = <Of<'_, u16> as MutableZeroVecLike<'_, u16>>::zvl_parse(&bytes)?;
-    finds_numbers(&rt, &list);
-    finds_numbers_by(&rt, &list);
-    is_borrowed::<u16, Of<'_, u16>>(&rt, &list, &bytes);
-    Ok(())
-}
-
-#[test]
-fn numbers_are_changed(rt: HostRuntime) -> Result<(), Fail> {
-    let bytes = [1, 0, 3, 0, 5, 0];
-    let mut list = <Of<'_, u16> as MutableZeroVecLike<'_, u16>>::zvl_parse(&bytes)?;
-    replaces_a_number(&rt, rt.alloc(), &mut list);
-    changes_numbers(&rt, rt.alloc(), &mut list);
-    shows_numbers(&rt, list.zvl_as_borrowed());
-    assert!(rt; is_cleared::<u16, Of<'_, u16>>(&mut list));
-    assert!(rt; list.is_owned());
-    Ok(())
-}
-
 // The empty list becomes "a", "b" and "ccc".
 fn adds_texts<'a, C: MutableZeroVecLike<'a, StrULE>>(rt: &impl Abort, alloc: Global, list: &mut C) {
     assert!(rt; list.zvl_push(alloc, &"b") == Ok(()));
@@ -161,6 +139,113 @@ fn makes_room<'a, T: ZvKind, C: MutableZeroVecLike<'a, T>>(
     Ok(())
 }
 
+// The numbers' container is searched and viewed, and changes.
+fn keeps_numbers<'a, C: MutableZeroVecLike<'a, u16, OwnedType = u16>>(
+    rt: &impl Abort,
+    alloc: Global,
+    bytes: &'a [u8],
+) -> Result<(), Fail> {
+    let mut list = C::zvl_parse(bytes)?;
+    finds_numbers(rt, &list);
+    finds_numbers_by(rt, &list);
+    is_borrowed(rt, &list, bytes);
+    replaces_a_number(rt, alloc, &mut list);
+    changes_numbers(rt, alloc, &mut list);
+    shows_numbers(rt, list.zvl_as_borrowed());
+    assert!(rt; is_cleared(&mut list) && list.zvl_is_owned());
+    Ok(())
+}
+
+#[test]
+fn numbers_have_a_container(rt: HostRuntime) -> Result<(), Fail> {
+    keeps_numbers::<Of<'_, u16>>(&rt, rt.alloc(), &[1, 0, 3, 0, 5, 0])
+}
+
+// Which lengths the container takes as one element more.
+fn takes<T: ZvKind, C: ZvContainer<T>>(rt: &impl Abort, list: &C, inserts: &[(usize, bool)]) {
+    for (len, taken) in inserts {
+        assert!(rt; list.zvl_takes_insert(*len) == *taken);
+    }
+}
+
+// Which lengths the container takes in place of its first element.
+fn gives_way<T: ZvKind, C: ZvContainer<T>>(rt: &impl Abort, list: &C, replaces: &[(usize, bool)]) {
+    for (len, taken) in replaces {
+        assert!(rt; !list.zvl_is_empty());
+        assert!(rt; list.zvl_takes_replace(0, *len) == *taken);
+    }
+}
+
+// The empty list borrows no bytes once it is emptied, and takes whatever one element may have.
+fn is_emptied<'a, C: MutableZeroVecLike<'a, StrULE>>(rt: &impl Abort) -> Result<(), Fail> {
+    let mut list = C::zvl_parse(&[1, 0, 97])?;
+    is_borrowed(rt, &list, &[1, 0, 97]);
+    assert!(rt; is_cleared(&mut list) && !list.zvl_is_owned());
+    let lengths = [
+        (65_533, true),
+        (65_534, true),
+        (65_535, false),
+        (65_536, false),
+    ];
+    takes(rt, &list, &lengths);
+    Ok(())
+}
+
+// The texts' container is searched, and changes.
+fn keeps_texts<'a, C: MutableZeroVecLike<'a, StrULE, OwnedType = VarBox<StrULE>>>(
+    rt: &impl Abort,
+    alloc: Global,
+) -> Result<(), Fail> {
+    let mut list = C::zvl_new();
+    adds_texts(rt, alloc, &mut list);
+    finds_texts(rt, &list);
+    changes_texts(rt, alloc, &mut list)?;
+    takes(
+        rt,
+        &list,
+        &[(65_535 - 9 - 2, true), (65_535 - 9 - 1, false)],
+    );
+    Ok(())
+}
+
+// The list of one text of so many letters. It has no contract: a proof shall not count them.
+fn one_text(alloc: Global, letters: usize) -> Result<Vec<u8>, Fail> {
+    let mut bytes = Vec::from_slice(alloc, &[1, 0])?;
+    for _ in 0..letters {
+        bytes.push(97)?;
+    }
+    Ok(bytes)
+}
+
+// What a list of an only text of ten letters takes in its place, and one of 65,534.
+fn only_gives_way<'a, C: MutableZeroVecLike<'a, StrULE>>(
+    rt: &impl Abort,
+    ten: &'a [u8],
+    many: &'a [u8],
+) -> Result<(), Fail> {
+    let lengths = [
+        (65_533, true),
+        (65_534, false),
+        (65_535, false),
+        (65_536, false),
+    ];
+    gives_way(rt, &C::zvl_parse(ten)?, &lengths);
+    gives_way(rt, &C::zvl_parse(many)?, &[(65_534, true), (65_535, false)]);
+    Ok(())
+}
+
+// The texts' container does all of the above.
+fn holds_texts<'a, C: MutableZeroVecLike<'a, StrULE, OwnedType = VarBox<StrULE>>>(
+    rt: &impl Abort,
+    alloc: Global,
+    ten: &'a [u8],
+    many: &'a [u8],
+) -> Result<(), Fail> {
+    keeps_texts::<C>(rt, alloc)?;
+    is_emptied::<C>(rt)?;
+    only_gives_way::<C>(rt, ten, many)
+}
+
 #[test]
 fn numbers_are_put_in_room(rt: HostRuntime) -> Result<(), Fail> {
     let alloc = rt.alloc();
@@ -190,93 +275,22 @@ fn texts_are_put_in_room(rt: HostRuntime) -> Result<(), Fail> {
     Ok(())
 }
 
-// Which lengths the container takes as one element more.
-fn takes<T: ZvKind, C: ZvContainer<T>>(rt: &impl Abort, list: &C, inserts: &[(usize, bool)]) {
-    for (len, taken) in inserts {
-        assert!(rt; list.zvl_takes_insert(*len) == *taken);
-    }
-}
-
-// Which lengths the container takes in place of its first element.
-fn gives_way<T: ZvKind, C: ZvContainer<T>>(rt: &impl Abort, list: &C, replaces: &[(usize, bool)]) {
-    for (len, taken) in replaces {
-        assert!(rt; !list.zvl_is_empty());
-        assert!(rt; list.zvl_takes_replace(0, *len) == *taken);
-    }
-}
-
 #[test]
-fn texts_are_searched_and_changed(rt: HostRuntime) -> Result<(), Fail> {
-    let mut list = <Of<'_, StrULE> as ZvContainer<StrULE>>::zvl_new();
-    adds_texts(&rt, rt.alloc(), &mut list);
-    finds_texts(&rt, &list);
-    changes_texts(&rt, rt.alloc(), &mut list)?;
-    takes::<StrULE, Of<'_, StrULE>>(
-        &rt,
-        &list,
-        &[(65_535 - 9 - 2, true), (65_535 - 9 - 1, false)],
-    );
-    Ok(())
-}
-
-// The list of one text of so many letters. It has no contract: a proof shall not count them.
-fn one_text(alloc: Global, letters: usize) -> Result<Vec<u8>, Fail> {
-    let mut bytes = Vec::from_slice(alloc, &[1, 0])?;
-    for _ in 0..letters {
-        bytes.push(97)?;
-    }
-    Ok(bytes)
-}
-
-// What a list of an only text of so many letters takes in its place.
-fn only_gives_way(
-    rt: &impl Abort,
-    alloc: Global,
-    letters: usize,
-    replaces: &[(usize, bool)],
-) -> Result<(), Fail> {
-    let bytes = one_text(alloc, letters)?;
-    let list = <Of<'_, StrULE> as MutableZeroVecLike<'_, StrULE>>::zvl_parse(&bytes)?;
-    gives_way::<StrULE, Of<'_, StrULE>>(rt, &list, replaces);
-    Ok(())
-}
-
-#[test]
-fn an_only_text_gives_way(rt: HostRuntime) -> Result<(), Fail> {
+fn texts_have_a_container(rt: HostRuntime) -> Result<(), Fail> {
     let alloc = rt.alloc();
-    let short = [
-        (65_533, true),
-        (65_534, false),
-        (65_535, false),
-        (65_536, false),
-    ];
-    only_gives_way(&rt, alloc, 10, &short)?;
-    only_gives_way(&rt, alloc, 65_534, &[(65_534, true), (65_535, false)])
+    let ten = one_text(alloc, 10)?;
+    let many = one_text(alloc, 65_534)?;
+    holds_texts::<Of<'_, StrULE>>(&rt, alloc, &ten, &many)
 }
 
-#[test]
-fn an_emptied_list_borrows_no_bytes(rt: HostRuntime) -> Result<(), Fail> {
-    let mut list = <Of<'_, StrULE> as MutableZeroVecLike<'_, StrULE>>::zvl_parse(&[1, 0, 97])?;
-    is_borrowed::<StrULE, Of<'_, StrULE>>(&rt, &list, &[1, 0, 97]);
-    assert!(rt; is_cleared::<StrULE, Of<'_, StrULE>>(&mut list));
-    assert!(rt; !list.is_owned());
-    takes::<StrULE, Of<'_, StrULE>>(
-        &rt,
-        &list,
-        &[
-            (65_533, true),
-            (65_534, true),
-            (65_535, false),
-            (65_536, false),
-        ],
-    );
-    Ok(())
-}
-
-#[test]
-fn data_are_pushed(rt: HostRuntime) {
-    let bytes = [1, 2];
-    let mut data = <Of<'_, SliceULE<u8>> as ZvContainer<SliceULE<u8>>>::zvl_new();
-    assert!(rt; data.zvl_push(rt.alloc(), &bytes.as_slice()) == Ok(()));
+// A slice of bytes is pushed.
+fn takes_data<'a, C: MutableZeroVecLike<'a, SliceULE<u8>>>(rt: &impl Abort, alloc: Global) {
+    let mut data = C::zvl_new();
+    assert!(rt; data.zvl_push(alloc, &[1, 2].as_slice()) == Ok(()));
     assert!(rt; data.zvl_as_borrowed().bytes() == [1, 0, 1, 2].as_slice());
+}
+
+#[test]
+fn data_have_a_container(rt: HostRuntime) {
+    takes_data::<Of<'_, SliceULE<u8>>>(&rt, rt.alloc());
 }
