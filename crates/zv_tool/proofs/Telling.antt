@@ -1,5 +1,5 @@
 -- What is told of an input, by what it parses to.
-use Rattle.std.proofs.Common.{◌≡◌, ◌∙◌, ◌⊎◌, ℕ, ◌+◌, ◌<◌, ◌≤◌, List, [], ◌∷◌, length, true, false, refl, sym, ap, inl, inr, arith, Some, None, Ok, Err}
+use Rattle.std.proofs.Common.{◌≡◌, ◌∙◌, ◌⊎◌, ℕ, ◌+◌, ◌≤◌, List, [], ◌∷◌, length, true, false, refl, sym, ap, inl, inr, arith, Some, None, Ok, Err}
 use Rattle.std.specs.Prelude.{IfSome, IsTrue, Result, min}
 use Rattle.std.specs.declared.option.Option.{Option}
 use Rattle.zv_tool.specs.declared.command.Command.{Command}
@@ -146,11 +146,15 @@ request_due form None image cs within is = record { within = tt; text = tt; stat
 request_due form (Some input) image cs within is =
     record { within = within; text = request_text input image form cs is; status = request_status input image form cs is }
 
-pub bad_due : (form : Form) (left : Option (List ℕ)) (number : ℕ) → IfSome left (λ input. length input ≤ MAX_INPUT)
-    → IfSome left (λ input. parse_input input ≡ Err number) → IsDue form left (λ text. text ≡ bad_line (first_bad form number)) BadLine
-bad_due form None number within is = record { within = tt; text = tt; status = tt }
-bad_due form (Some input) number within is =
-    record { within = within; text = bad_text input form number is; status = bad_status input form number is }
+pub bad_due : (form : Form) (left : Option (List ℕ)) (number first : ℕ) → first ≡ first_bad form number → IfSome left (λ input. length input ≤ MAX_INPUT)
+    → IfSome left (λ input. parse_input input ≡ Err number) → IsDue form left (λ text. text ≡ bad_line first) BadLine
+bad_due form None number first same within is = record { within = tt; text = tt; status = tt }
+bad_due form (Some input) number first same within is =
+    record {
+      within = within;
+      text = λ text wanted. bad_text input form number is text (wanted ∙ ap bad_line same);
+      status = bad_status input form number is;
+    }
 
 module _ {K : Type 0} {taken : K → Option (List ℕ)} {faults : K → ℕ} {old new : K} {result : Status} {Wanted : List ℕ → Type 0} {due : Status}
     (form : Form) (told : Tells taken faults old new result Wanted due) where
@@ -177,3 +181,13 @@ module _ {K : Type 0} {taken : K → Option (List ℕ)} {faults : K → ℕ} {ol
     | inr (inl memory) ↦ inr (inl memory)
     | inr (inr failed) ↦ inr (inr (inr (told.fault failed)))
   ]
+
+-- the same of a look-up
+pub look_complete : (ws : List (List ℕ)) (form : Form) (left : Option (List ℕ)) (result : Status) (R : Type 0) → form_of ws ≡ Some form
+    → IfSome left (λ input. length input ≤ MAX_INPUT → (result ≡ status_of_form form input) ⊎ R) → is_look ws ≡ true
+    → IfSome left (λ input. length input ≤ MAX_INPUT → (result ≡ status_of_look (look_input input)) ⊎ R)
+look_complete ws form None result R is complete look = tt
+look_complete ws form (Some input) result R is complete look = λ within. elim (complete within) [
+  | inl due ↦ inl (due ∙ look_status ws form input is look)
+  | inr other ↦ inr other
+]

@@ -124,10 +124,7 @@ impl<const KIND: u8> CompactBytes<KIND> {
 
     // The same for any word. (Apart, it leaves the way of the many short ones free.)
     #[inline(never)]
-    fn cut_other_hex(
-        alloc: Global,
-        text: &[u8],
-    ) -> Result<Option<(Self, Option<&[u8]>)>, NoMemory>
+    fn cut_other_hex(alloc: Global, text: &[u8]) -> Result<Option<(Self, Option<&[u8]>)>, NoMemory>
         ensures { IfOk result (λ o. option_map (λ p. (p.0, words_after (option_copied p.1))) o
             ≡ first_of (content_of KIND) (words text.now)) }
     {

@@ -99,12 +99,7 @@ fn answer<K: Sink>(alloc: Global, form: &Form, request: &Request, sink: &mut K) 
 }
 
 // Reads the source to its end and answers what it gives.
-fn run_form<S: Source, K: Sink>(
-    alloc: Global,
-    form: &Form,
-    source: &mut S,
-    sink: &mut K,
-) -> Status
+fn run_form<S: Source, K: Sink>(alloc: Global, form: &Form, source: &mut S, sink: &mut K) -> Status
     ensures written { IsTrue (is_answer result) → Written (FormWanted form.now (S.left source.old))
         (K.taken sink.old) (K.taken sink.new) }
     ensures status { IsTrue (is_answer result) → IfSome (S.left source.old) (λ input.

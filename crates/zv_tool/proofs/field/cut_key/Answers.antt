@@ -1,4 +1,4 @@
-use Rattle.zv_tool.proofs.Cutting.{first_key, first_value}
+use Rattle.zv_tool.proofs.Cutting.{first_key}
 use Rattle.zv_tool.proofs.field.cut_key.Goals as goal
 
 pub returns-in-Some : goal.returns-in-Some

@@ -1,4 +1,4 @@
-use Rattle.std.proofs.Common.{◌≡◌, ◌∙◌, inl, inr, refl, Some, sym}
+use Rattle.std.proofs.Common.{◌≡◌, inl, inr, refl, Some, sym}
 use Rattle.zv_map2d.specs.Image.{fault}
 use Rattle.zv_tool.specs.Program.{LookedText}
 use Rattle.zv_tool.proofs.Refusals.{found_look, refused_look, refused_status, sound_status}
