@@ -42,6 +42,7 @@ fn is_text(bytes: &[u8]) -> bool
 }
 
 // Whether bytes are of a kind.
+#[inline(always)]
 fn is_of_kind(kind: u8, bytes: &[u8]) -> bool
     ensures { result ≡ is_of_kind kind bytes.now }
 {
@@ -103,7 +104,7 @@ impl<const KIND: u8> CompactBytes<KIND> {
     /// The bytes that the hex digits of a text's first word stand for, and what follows that word's
     /// space; `None` where they stand for none, or where they aren't of the kind. Up to 12 bytes
     /// take no memory, and their digits are read once.
-    #[inline]
+    #[inline(always)]
     pub(crate) fn cut_hex(
         alloc: Global,
         text: &[u8],

@@ -43,6 +43,7 @@ pub(crate) fn read_key(alloc: Global, word: &[u8]) -> Result<Option<KeyText>, No
 
 /// The key that the first word of a text is, and what follows that word's space; `None` where
 /// there is no text, or the word is no key. A short key takes no memory.
+#[inline(always)]
 pub(crate) fn cut_key(
     alloc: Global,
     text: Option<&[u8]>,
@@ -58,6 +59,7 @@ pub(crate) fn cut_key(
 
 /// The bytes of the field that the first word of a text is, and what follows that word's space;
 /// `None` where there is no text, or the word is no field. Few bytes take no memory.
+#[inline(always)]
 pub(crate) fn cut_value(
     alloc: Global,
     text: Option<&[u8]>,
@@ -73,6 +75,7 @@ pub(crate) fn cut_value(
 
 /// The keys that the first two words of a text are, and what follows the second word's space;
 /// `None` where one of them is missing or no key.
+#[inline(always)]
 pub(crate) fn cut_keys(
     alloc: Global,
     text: Option<&[u8]>,

@@ -39,7 +39,9 @@ pub(crate) struct Request {
     pub commands: Commands,
 }
 
-// A command, where no word follows its fields.
+// A command, where no word follows its fields. (This and the next four are inlined, so that a
+// command is put together where it is kept.)
+#[inline(always)]
 fn if_last(command: Command, rest: Option<&[u8]>) -> Option<Command>
     ensures { result ≡ if_last command (words_after (option_copied rest.entry)) }
 {
@@ -51,6 +53,7 @@ fn if_last(command: Command, rest: Option<&[u8]>) -> Option<Command>
 
 // A look-up, of which two keys are the fields.
 #[tactic(auto, using(crate::proofs::Fields::get_by_keys))]
+#[inline(always)]
 fn read_get(alloc: Global, fields: Option<&[u8]>) -> Result<Option<Command>, NoMemory>
     ensures { IfOk result (λ command. command ≡ get (words_after (option_copied fields.entry))) }
 {
@@ -62,6 +65,7 @@ fn read_get(alloc: Global, fields: Option<&[u8]>) -> Result<Option<Command>, NoM
 
 // A value for a pair, of which two keys and the value are the fields.
 #[tactic(auto, using(crate::proofs::Fields::put_by_keys))]
+#[inline(always)]
 fn read_put(alloc: Global, fields: Option<&[u8]>) -> Result<Option<Command>, NoMemory>
     ensures { IfOk result (λ command. command ≡ put (words_after (option_copied fields.entry))) }
 {
@@ -76,6 +80,7 @@ fn read_put(alloc: Global, fields: Option<&[u8]>) -> Result<Option<Command>, NoM
 
 // A removal, of which two keys are the fields.
 #[tactic(auto, using(crate::proofs::Fields::del_by_keys))]
+#[inline(always)]
 fn read_del(alloc: Global, fields: Option<&[u8]>) -> Result<Option<Command>, NoMemory>
     ensures { IfOk result (λ command. command ≡ del (words_after (option_copied fields.entry))) }
 {
@@ -87,6 +92,7 @@ fn read_del(alloc: Global, fields: Option<&[u8]>) -> Result<Option<Command>, NoM
 
 // The pairs of a row, of which a key is the field.
 #[tactic(auto, using(crate::proofs::Fields::row_by_key))]
+#[inline(always)]
 fn read_row(alloc: Global, fields: Option<&[u8]>) -> Result<Option<Command>, NoMemory>
     ensures { IfOk result (λ command. command ≡ row (words_after (option_copied fields.entry))) }
 {
