@@ -1,5 +1,6 @@
 -- What is found and changed in a map in two levels, at the place of a pair of keys.
-use Rattle.std.proofs.Common.{◌≡◌, ℕ, zero, suc, ◌+◌, ◌<◌, ◌==◌, ◌&&◌, Bool, true, false, List, [], ◌∷◌, length, Option, Some, None, is_none, is_some, Result, refl, sym}
+use Rattle.std.proofs.Common.{◌≡◌, ℕ, zero, suc, ◌+◌, ◌<◌, ◌==◌, ◌&&◌, Bool, true, false, List, [], ◌∷◌, length, Option, Some, None}
+use Rattle.std.proofs.Common.{is_none, is_some, Result, refl, sym}
 use Rattle.std.proofs.Common.{◌∙◌, ap, arith}
 use Rattle.std.proofs.lemmas.Bool.Decides.{nat_tests}
 use Rattle.std.proofs.lemmas.List.{set_split, length-map}
@@ -36,10 +37,10 @@ module _ (m : Rows) where
   nothing_there (InRow i j) other = refl
   nothing_there (NewRow i) other = refl
 
-  pub nothing_gone : (p : Place) → ((i j : ℕ) → p ≡ Pair i j → ⊥) → del_at m p ≡ m
-  nothing_gone (Pair i j) other = absurd (other i j refl)
-  nothing_gone (InRow i j) other = refl
-  nothing_gone (NewRow i) other = refl
+  pub none_gone : (p : Place) → ((i j : ℕ) → p ≡ Pair i j → ⊥) → del_at m p ≡ m
+  none_gone (Pair i j) other = absurd (other i j refl)
+  none_gone (InRow i j) other = refl
+  none_gone (NewRow i) other = refl
 
   pub pair_found : (p : Place) → is_some (find_at m p) ≡ is_pair p
   pair_found (Pair i j) = refl

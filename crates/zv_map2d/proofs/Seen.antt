@@ -124,8 +124,10 @@ module _ {k0s : List Bytes} {es : List ℕ} {k1s vs : List Bytes} {m : Rows} (s 
   last_of_row i end h some e =
       let ks = keys_of (row_at m i) in
       let many : length ks ≡ length (row_at m i) = length-map (row_at m i) (λ p. p.0) in
-      let at : end - 1 ≡ before m i + (length ks - 1) = omega (arith, before_suc m i h, e, some, many) in
-      (omega (arith, e, (row_within i h).1, before_suc m i h, some), rw (at, s.seconds_are) (nth_pair (λ p. p.0) m i h (length ks - 1) (omega (arith, some, many))))
+      let at : end - 1 ≡ before m i + (length ks - 1) = omega (arith, before_suc m i h, e, some, many) in (
+        omega (arith, e, (row_within i h).1, before_suc m i h, some),
+        rw (at, s.seconds_are) (nth_pair (λ p. p.0) m i h (length ks - 1) (omega (arith, some, many))),
+      )
 
   -- what a search of the first keys found
   pub row_placed : {order : Order} → IsTotalOrder order → (key : Bytes) (r : Result ℕ ℕ) → IsMap order m → Found (compared order k0s key) r →

@@ -132,8 +132,8 @@ impl<
         }
     }
 
-    /// The place again: what is found there, and what a removal leaves, is told of the result, which
-    /// a match takes apart.
+    /// The place again: what is found there, and what a removal leaves, is told of the result,
+    /// which a match takes apart.
     #[inline]
     fn same_place<Q0: ZvOrdArg<K0>, Q1: ZvOrdArg<K1>>(
         &self,
@@ -532,7 +532,7 @@ impl<
 
     /// Takes a pair of keys out, with its row where that was its only pair, and gives back the
     /// value that it had.
-    #[tactic(auto, using(crate::proofs::Places::nothing_there, crate::proofs::Places::nothing_gone))]
+    #[tactic(auto, using(crate::proofs::Places::nothing_there, crate::proofs::Places::none_gone))]
     pub(crate) fn remove<Q0: ZvOrdArg<K0>, Q1: ZvOrdArg<K1>>(
         &mut self,
         alloc: Global,
@@ -555,7 +555,7 @@ impl<
 
     /// Takes the pair at the place of its keys out, with its row where that was its only pair, and
     /// says whether it was there.
-    #[tactic(auto, using(crate::proofs::Places::nothing_there, crate::proofs::Places::nothing_gone))]
+    #[tactic(auto, using(crate::proofs::Places::nothing_there, crate::proofs::Places::none_gone))]
     pub(crate) fn discard_at<Q0: ZvOrdArg<K0>, Q1: ZvOrdArg<K1>>(
         &mut self,
         place: Place,

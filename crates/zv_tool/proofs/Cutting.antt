@@ -103,15 +103,24 @@ module _ {A : Type 0} (read inner : List ℕ → Option A) (is : (word : List �
 
 key_digits : (word : List ℕ) → key word ≡ (after_mark word >>= content_of 1)
 key_digits [] = refl
-key_digits (b ∷ digits) = elim (b == 120) as (λ t. ((if t then bytes_of_digits digits else None) >>= (λ bytes. if is_utf8 bytes then Some bytes else None)) ≡ ((if t then Some digits else None) >>= content_of 1)) [ true ↦ refl | false ↦ refl ]
+key_digits (b ∷ digits) = by (b == 120)
+  where
+    by : (t : Bool) → ((if t then bytes_of_digits digits else None) >>= (λ bytes. if is_utf8 bytes then Some bytes else None))
+        ≡ ((if t then Some digits else None) >>= content_of 1)
+    by true = refl
+    by false = refl
 
 field_digits : (word : List ℕ) → field word ≡ (after_mark word >>= content_of 0)
 field_digits [] = refl
-field_digits (b ∷ digits) = elim (b == 120) as (λ t. (if t then bytes_of_digits digits else None) ≡ ((if t then Some digits else None) >>= content_of 0)) [ true ↦ by (bytes_of_digits digits) | false ↦ refl ]
+field_digits (b ∷ digits) = by (b == 120)
   where
-    by : (o : Option (List ℕ)) → o ≡ (o >>= (λ bytes. Some bytes))
-    by None = refl
-    by (Some bytes) = refl
+    kept_as_it_is : (o : Option (List ℕ)) → o ≡ (o >>= (λ bytes. Some bytes))
+    kept_as_it_is None = refl
+    kept_as_it_is (Some bytes) = refl
+
+    by : (t : Bool) → (if t then bytes_of_digits digits else None) ≡ ((if t then Some digits else None) >>= content_of 0)
+    by true = kept_as_it_is (bytes_of_digits digits)
+    by false = refl
 
 pub first_key : (text : Option (List ℕ)) (digits : List ℕ) → Some digits ≡ option_and_then after_mark text
     → first_of key (words_after text) ≡ first_of (content_of 1) (words digits)

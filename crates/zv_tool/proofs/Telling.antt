@@ -9,9 +9,11 @@ use Rattle.zv_tool.specs.declared.input.TheConstants.{MAX_INPUT}
 use Rattle.zv_tool.specs.declared.status.Status.{Status}
 use Rattle.zv_tool.specs.declared.status.Status.TheVariants.{BadLine, Memory, WriteFault}
 use Rattle.zv_tool.specs.Devices.{CutShort, Rose, Written}
-use Rattle.zv_tool.specs.Input.{command_and, command_of_words, commands, field, image_and, lines, look_input, look_lines, only_image, parse_input, parse_lines, words}
+use Rattle.zv_tool.specs.Input.{command_and, command_of_words, commands, field, image_and, lines, look_input, look_lines}
+use Rattle.zv_tool.specs.Input.{only_image, parse_input, parse_lines, words}
 use Rattle.zv_tool.specs.Output.{bad_line}
-use Rattle.zv_tool.specs.Program.{FormText, FormWanted, RequestText, Sent, Tells, first_bad, form_of, is_answer, is_look, status_of_form, status_of_look, status_of_request}
+use Rattle.zv_tool.specs.Program.{FormText, FormWanted, RequestText, Sent, Tells, first_bad, form_of, is_answer}
+use Rattle.zv_tool.specs.Program.{is_look, status_of_form, status_of_look, status_of_request}
 
 -- ---- texts that are sent
 

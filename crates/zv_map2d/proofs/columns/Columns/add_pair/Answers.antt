@@ -7,10 +7,12 @@ use Rattle.zv_map2d.proofs.Splices.{pair_added}
 use Rattle.zv_map2d.proofs.columns.Columns.add_pair.Goals as goal
 
 pub zvl_insert_reserved-requires-clause-place : goal.zvl_insert_reserved-requires-clause-place
-zvl_insert_reserved-requires-clause-place g c = (pair_goes (seen c.self.view_is c.self.invariant) _ _ _ c.requires.row c.requires.pair c.pair_start-at.ensures).0
+zvl_insert_reserved-requires-clause-place g c =
+    (pair_goes (seen c.self.view_is c.self.invariant) _ _ _ c.requires.row c.requires.pair c.pair_start-at.ensures).0
 
 pub zvl_insert_reserved-requires-2-clause-place : goal.zvl_insert_reserved-requires-2-clause-place
-zvl_insert_reserved-requires-2-clause-place g c = (pair_goes (seen c.self.view_is c.self.invariant) _ _ _ c.requires.row c.requires.pair c.pair_start-at.ensures).1
+zvl_insert_reserved-requires-2-clause-place g c =
+    (pair_goes (seen c.self.view_is c.self.invariant) _ _ _ c.requires.row c.requires.pair c.pair_start-at.ensures).1
 
 pub shift-requires-clause-below : goal.shift-requires-clause-below
 shift-requires-clause-below g c = λ k h. omega (arith, ends_below (seen c.self.view_is c.self.invariant) (omega (arith, c.requires.room.pairs)) k h)

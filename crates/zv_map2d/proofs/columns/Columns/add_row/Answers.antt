@@ -31,12 +31,14 @@ insert_owned-requires-clause-place g c =
 pub invariant_of-self : goal.invariant_of-self
 invariant_of-self g c =
     columns c.self.invariant (same_lists c.zvl_insert_reserved.ensures.list (rw (← c.shift.ensures.values) c.insert_owned.ensures.values)
-    c.zvl_insert_reserved-2.ensures.list c.zvl_insert_reserved-3.ensures.list (row_added (seen c.self.view_is c.self.invariant) _ _ _ _ _ c.requires.row c.row_start-at.ensures))
+    c.zvl_insert_reserved-2.ensures.list c.zvl_insert_reserved-3.ensures.list
+    (row_added (seen c.self.view_is c.self.invariant) _ _ _ _ _ c.requires.row c.row_start-at.ensures))
 
 pub returns-clause-rows : goal.returns-clause-rows
 returns-clause-rows g c =
     view_of _ _ _ _ _ (same_lists c.zvl_insert_reserved.ensures.list (rw (← c.shift.ensures.values) c.insert_owned.ensures.values)
-    c.zvl_insert_reserved-2.ensures.list c.zvl_insert_reserved-3.ensures.list (row_added (seen c.self.view_is c.self.invariant) _ _ _ _ _ c.requires.row c.row_start-at.ensures))
+    c.zvl_insert_reserved-2.ensures.list c.zvl_insert_reserved-3.ensures.list
+    (row_added (seen c.self.view_is c.self.invariant) _ _ _ _ _ c.requires.row c.row_start-at.ensures))
 
 pub returns-clause-spends : goal.returns-clause-spends
 returns-clause-spends g c =

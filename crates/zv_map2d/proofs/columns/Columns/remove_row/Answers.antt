@@ -7,11 +7,13 @@ use Rattle.zv_map2d.proofs.columns.Columns.remove_row.Goals as goal
 
 pub zvl_discard-requires-2-clause-place : goal.zvl_discard-requires-2-clause-place
 zvl_discard-requires-2-clause-place g c =
-    (pair_stands (seen c.self.view_is c.self.invariant) c.args.row 0 _ c.requires.row (omega (arith, c.requires.single)) (omega (arith, c.row_start-at.ensures))).0
+    (pair_stands (seen c.self.view_is c.self.invariant) c.args.row 0 _ c.requires.row (omega (arith, c.requires.single))
+    (omega (arith, c.row_start-at.ensures))).0
 
 pub zvl_discard-requires-3-clause-place : goal.zvl_discard-requires-3-clause-place
 zvl_discard-requires-3-clause-place g c =
-    (pair_stands (seen c.self.view_is c.self.invariant) c.args.row 0 _ c.requires.row (omega (arith, c.requires.single)) (omega (arith, c.row_start-at.ensures))).1
+    (pair_stands (seen c.self.view_is c.self.invariant) c.args.row 0 _ c.requires.row (omega (arith, c.requires.single))
+    (omega (arith, c.row_start-at.ensures))).1
 
 pub shift-requires-clause-above : goal.shift-requires-clause-above
 shift-requires-clause-above g c = ends_some (seen c.self.view_is c.self.invariant) c.args.row c.requires.row (omega (arith, c.requires.single))
@@ -24,12 +26,14 @@ remove_owned-requires-clause-place g c =
 pub invariant_of-self : goal.invariant_of-self
 invariant_of-self g c =
     columns c.self.invariant (same_lists c.zvl_discard.ensures.list (rw (← c.shift.ensures.values) c.remove_owned.ensures.values)
-    c.zvl_discard-2.ensures.list c.zvl_discard-3.ensures.list (row_removed (seen c.self.view_is c.self.invariant) _ _ c.requires.row c.requires.single c.row_start-at.ensures))
+    c.zvl_discard-2.ensures.list c.zvl_discard-3.ensures.list
+    (row_removed (seen c.self.view_is c.self.invariant) _ _ c.requires.row c.requires.single c.row_start-at.ensures))
 
 pub returns-clause-rows : goal.returns-clause-rows
 returns-clause-rows g c =
     view_of _ _ _ _ _ (same_lists c.zvl_discard.ensures.list (rw (← c.shift.ensures.values) c.remove_owned.ensures.values)
-    c.zvl_discard-2.ensures.list c.zvl_discard-3.ensures.list (row_removed (seen c.self.view_is c.self.invariant) _ _ c.requires.row c.requires.single c.row_start-at.ensures))
+    c.zvl_discard-2.ensures.list c.zvl_discard-3.ensures.list
+    (row_removed (seen c.self.view_is c.self.invariant) _ _ c.requires.row c.requires.single c.row_start-at.ensures))
 
 pub returns-clause-spends : goal.returns-clause-spends
 returns-clause-spends g c =

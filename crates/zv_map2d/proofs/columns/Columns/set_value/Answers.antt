@@ -7,7 +7,8 @@ use Rattle.zv_map2d.proofs.Splices.{value_set}
 use Rattle.zv_map2d.proofs.columns.Columns.set_value.Goals as goal
 
 pub zvl_replace_reserved-requires-clause-place : goal.zvl_replace_reserved-requires-clause-place
-zvl_replace_reserved-requires-clause-place g c = (pair_stands (seen c.self.view_is c.self.invariant) _ _ _ c.requires.row c.requires.pair c.pair_start-at.ensures).1
+zvl_replace_reserved-requires-clause-place g c =
+    (pair_stands (seen c.self.view_is c.self.invariant) _ _ _ c.requires.row c.requires.pair c.pair_start-at.ensures).1
 
 pub invariant_of-self : goal.invariant_of-self
 invariant_of-self g c =
