@@ -8,7 +8,6 @@ use Rattle.std.specs.Ordering.{ordering_then}
 use Rattle.std.specs.declared.cmp.Ordering.{Ordering}
 use Rattle.std.specs.declared.cmp.Ordering.TheVariants.{Less, Equal, Greater}
 use Rattle.zv_ule.specs.Orders.{EqualOnlyIfSame}
-use Rattle.zv_ule.specs.laws.PairSpellings.{made_alike}
 
 pub both_equal : (a b : Ordering) → ordering_then a b ≡ Equal → (a ≡ Equal) × (b ≡ Equal)
 both_equal Less b e = cc
@@ -22,30 +21,18 @@ same_options same None (Some w) h k e = cc
 same_options same (Some v) None h k e = cc
 same_options same (Some v) (Some w) h k e = ap Some (same v w h k e)
 
-pub same_two : {A B : Type 0} (v w : A × B) → v.0 ≡ w.0 → v.1 ≡ w.1 → v ≡ w
-same_two {A} {B} v w p0 p1 =
-    let make : A → B → A × B = λ a b. (a, b) in
-    made_alike make p0 p1
-
+-- tuples whose parts are the same
 pub same_three : {A B C : Type 0} (v w : A × B × C) → v.0 ≡ w.0 → v.1 ≡ w.1 → v.2 ≡ w.2 → v ≡ w
-same_three {A} {B} {C} v w p0 p1 p2 =
-    let make : A → B → C → A × B × C = λ a b c. (a, b, c) in
-    made_alike (λ f x. f x) (made_alike make p0 p1) p2
+same_three v w p0 p1 p2 = λ i. (p0 i, p1 i, p2 i)
 
 pub same_four : {A B C D : Type 0} (v w : A × B × C × D) → v.0 ≡ w.0 → v.1 ≡ w.1 → v.2 ≡ w.2 → v.3 ≡ w.3 → v ≡ w
-same_four {A} {B} {C} {D} v w p0 p1 p2 p3 =
-    let make : A → B → C → D → A × B × C × D = λ a b c d. (a, b, c, d) in
-    made_alike (λ f x. f x) (made_alike (λ f x. f x) (made_alike make p0 p1) p2) p3
+same_four v w p0 p1 p2 p3 = λ i. (p0 i, p1 i, p2 i, p3 i)
 
 pub same_five : {A B C D E : Type 0} (v w : A × B × C × D × E) → v.0 ≡ w.0 → v.1 ≡ w.1 → v.2 ≡ w.2 → v.3 ≡ w.3 → v.4 ≡ w.4 → v ≡ w
-same_five {A} {B} {C} {D} {E} v w p0 p1 p2 p3 p4 =
-    let make : A → B → C → D → E → A × B × C × D × E = λ a b c d e. (a, b, c, d, e) in
-    made_alike (λ f x. f x) (made_alike (λ f x. f x) (made_alike (λ f x. f x) (made_alike make p0 p1) p2) p3) p4
+same_five v w p0 p1 p2 p3 p4 = λ i. (p0 i, p1 i, p2 i, p3 i, p4 i)
 
 pub same_six : {A B C D E F : Type 0} (v w : A × B × C × D × E × F) → v.0 ≡ w.0 → v.1 ≡ w.1 → v.2 ≡ w.2 → v.3 ≡ w.3 → v.4 ≡ w.4 → v.5 ≡ w.5 → v ≡ w
-same_six {A} {B} {C} {D} {E} {F} v w p0 p1 p2 p3 p4 p5 =
-    let make : A → B → C → D → E → F → A × B × C × D × E × F = λ a b c d e f. (a, b, c, d, e, f) in
-    made_alike (λ f x. f x) (made_alike (λ f x. f x) (made_alike (λ f x. f x) (made_alike (λ f x. f x) (made_alike make p0 p1) p2) p3) p4) p5
+same_six v w p0 p1 p2 p3 p4 p5 = λ i. (p0 i, p1 i, p2 i, p3 i, p4 i, p5 i)
 
 pub same_lists : {T : Type 0} {is_value : T → Type 0} {cmp : T → T → Ordering} → EqualOnlyIfSame is_value cmp → (xs ys : List T) → AllByRecursion is_value xs →
     AllByRecursion is_value ys → slice_cmp cmp xs ys ≡ Equal → xs ≡ ys

@@ -12,19 +12,9 @@ use Rattle.zv_ule.specs.declared.error.UleError.{UleError}
 use Rattle.zv_ule.specs.declared.error.UleError.TheVariants.{InvalidLength}
 use Rattle.zv_ule.specs.Bytes.{IsBytes}
 use Rattle.zv_ule.specs.Chunks.{chunks_of, chunks_fault, values_of, first_fault, or_fault, IsFirstFault}
-use Rattle.zv_ule.specs.Fixed.{IsChunk, IsListOf, IsSpelling, IsTwin}
+use Rattle.zv_ule.specs.Fixed.{IsChunk, IsListOf, IsSpelling}
+pub use Rattle.zv_ule.specs.laws.Spellings.{through_twin}
 use Rattle.zv_ule.proofs.Lists.{joined_fault, joined_values, read_list}
-
--- a type that is stored as another one spells what that spells
-pub through_twin : {V U : Type 0} {is_value : V → Type 0} {is_stored : U → Type 0} {to : V → U} {from : U → V} {w : ℕ} {f : List ℕ → Option UleError}
-    {chunk : U → List ℕ} {value : List ℕ → U} → IsTwin is_value is_stored to from → IsSpelling is_stored w f chunk value →
-    IsSpelling is_value w f (λ v. chunk (to v)) (λ b. from (value b))
-through_twin {to = to} {from = from} {chunk = chunk} {value = value} t s = record {
-  writes = λ v h. s.writes (to v) (t.stored v h);
-  back = λ v h. ap from (s.back (to v) (t.stored v h)) ∙ t.back v h;
-  reads = λ b h. t.taken (value b) (s.reads b h);
-  again = λ b h. ap chunk (t.again (value b) (s.reads b h)) ∙ s.again b h;
-}
 
 pub exact : {V : Type 0} {is_value : V → Type 0} {w : ℕ} {f : List ℕ → Option UleError} {chunk : V → List ℕ} {value : List ℕ → V}
     (s : IsSpelling is_value w f chunk value) (ty : TyName) → 0 < w → (b : List ℕ) → IsBytes b → (chunks_fault ty w f b ≡ None) ↔

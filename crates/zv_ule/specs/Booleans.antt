@@ -7,7 +7,7 @@ use Rattle.zv_ule.specs.declared.error.TyName.TheVariants.{Bool as BoolName}
 use Rattle.zv_ule.specs.declared.error.UleError.{UleError}
 use Rattle.zv_ule.specs.declared.error.UleError.TheVariants.{ParseError}
 use Rattle.zv_ule.specs.Fixed.{IsChunk, IsSpelling, IsTwin}
-use Rattle.zv_ule.specs.laws.Spellings.{no_bytes, more_bytes, one_byte}
+use Rattle.zv_ule.specs.laws.Spellings.{no_bytes, more_bytes, one_byte, same_twin}
 
 -- the error of a byte: 0 and 1 have none
 abbrev pub bit_fault : ℕ → Option UleError
@@ -55,4 +55,4 @@ bool_spelling = record {
 
 -- and loaded as itself
 pub bool_twin : IsTwin {V = Bool} {U = Bool} (λ _. ⊤) (λ _. ⊤) (λ v. v) (λ v. v)
-bool_twin = record { stored = λ v h. h; back = λ v h. refl; taken = λ v h. h; again = λ v h. refl }
+bool_twin = same_twin

@@ -1,6 +1,6 @@
 -- Characters in three bytes.
 use Rattle.std.proofs.Common.{◌≡◌, ℕ, ◌+◌, ◌*◌, ◌<◌, ◌^◌, ◌%◌, ◌/◌, List, [], ◌∷◌, length, Option}
-use Rattle.std.proofs.Common.{Some, None, refl, ap, arith, slice_index, if◌then◌else◌, Bool, true}
+use Rattle.std.proofs.Common.{Some, None, refl, arith, slice_index, if◌then◌else◌, Bool, true}
 use Rattle.std.proofs.Common.{false, inl, inr}
 use Rattle.std.proofs.Math.Utf8.{scalar, scalar_cases}
 use Rattle.std.proofs.lemmas.Nat.{mod_below}
@@ -11,7 +11,7 @@ use Rattle.zv_ule.specs.declared.error.UleError.{UleError}
 use Rattle.zv_ule.specs.declared.error.UleError.TheVariants.{ParseError}
 use Rattle.zv_ule.specs.Bytes.{IsBytes}
 use Rattle.zv_ule.specs.Fixed.{IsSpelling, IsTwin}
-use Rattle.zv_ule.specs.laws.Spellings.{no_bytes, more_bytes}
+use Rattle.zv_ule.specs.laws.Spellings.{no_bytes, more_bytes, flip, held_spelling, held_twin}
 
 -- the character that is stored
 abbrev pub char_of : CharULE → ℕ
@@ -59,22 +59,26 @@ scalar_if true h = refl
 scalar_if false h = cc
 
 -- a character is stored as the low three bytes of its number
-pub char_spelling : IsSpelling {V = CharULE} (λ v. IsScalar v.value) 3 char_fault
-    (λ v. char_bytes v.value) (λ b. record { value = char_code b })
-char_spelling = record {
-  writes = λ v h. record {
-    each = three_bytes (v.value % 256) (v.value / 256 % 256) (v.value / 65536 % 256)
-        (mod_below v.value 256 (omega arith)) (mod_below (v.value / 256) 256 (omega arith))
-        (mod_below (v.value / 65536) 256 (omega arith));
+code_spelling : IsSpelling {V = ℕ} IsScalar 3 char_fault char_bytes char_code
+code_spelling = record {
+  writes = λ c h. record {
+    each = three_bytes (c % 256) (c / 256 % 256) (c / 65536 % 256)
+        (mod_below c 256 (omega arith)) (mod_below (c / 256) 256 (omega arith))
+        (mod_below (c / 65536) 256 (omega arith));
     long = refl;
-    good = rw (code_back v.value (scalar_small v.value h), h) refl;
+    good = rw (code_back c (scalar_small c h), h) refl;
   };
-  back = λ v h. ap (λ n. record { value = n }) (code_back v.value (scalar_small v.value h));
+  back = λ c h. code_back c (scalar_small c h);
   reads = λ b h. scalar_if (scalar (char_code b)) h.good;
   again = λ b h. bytes_back b h.each h.long;
 }
 
--- and loaded as itself
+-- and so is what holds it
+pub char_spelling : IsSpelling {V = CharULE} (λ v. IsScalar v.value) 3 char_fault
+    (λ v. char_bytes v.value) (λ b. record { value = char_code b })
+char_spelling = held_spelling code_spelling (λ v. v.value) (λ c. record { value = c }) (λ _. refl)
+    (λ _. refl)
+
 pub char_twin : IsTwin {V = ℕ} {U = CharULE} IsScalar (λ u. IsScalar u.value)
     (λ v. record { value = v }) (λ u. u.value)
-char_twin = record { stored = λ v h. h; back = λ v h. refl; taken = λ u h. h; again = λ u h. refl }
+char_twin = flip (held_twin (λ u. u.value) (λ c. record { value = c }) (λ _. refl) (λ _. refl))

@@ -11,8 +11,8 @@ use Rattle.zv_ule.specs.declared.error.TyName.TheVariants.{NonZeroU8 as NonZeroU
 use Rattle.zv_ule.specs.declared.error.UleError.{UleError}
 use Rattle.zv_ule.specs.declared.error.UleError.TheVariants.{ParseError}
 use Rattle.zv_ule.specs.Fixed.{IsSpelling, IsTwin}
-use Rattle.zv_ule.specs.laws.Spellings.{no_bytes, more_bytes, one_byte, byte_twin}
-use Rattle.zv_ule.specs.laws.Twins.{signed_twin}
+use Rattle.zv_ule.specs.laws.Spellings.{no_bytes, more_bytes, one_byte}
+use Rattle.zv_ule.specs.laws.Twins.{sign_twin}
 
 -- the error of a byte: only 0 has one
 abbrev pub zero_fault : ℕ → Option UleError
@@ -76,16 +76,6 @@ non_zero_spelling = record {
   again = λ b h. ap (λ n. n ∷ []) (value_of (slice_index b 0) h.good) ∙ one_byte b h.long;
 }
 
--- and loaded as itself
-pub non_zero_twin : IsTwin {V = NonZeroU8} {U = NonZeroU8} (λ v. v.value < 2 ^ 8)
-    (λ v. v.value < 2 ^ 8) (λ v. v) (λ v. v)
-non_zero_twin = record {
-  stored = λ v h. h;
-  back = λ v h. refl;
-  taken = λ v h. h;
-  again = λ v h. refl;
-}
-
 positive : (n : ℕ) (z : ℤ) → (n ≡ 0 → z ≡ pos 0) → 0 < unsigned_abs z → 0 < n
 positive zero z h k = absurd (omega (arith, ap unsigned_abs (h refl), k))
 positive (suc n) z h k = zero-lt-suc n
@@ -98,19 +88,19 @@ positive_signed n (negsuc m) h k = zero-lt-suc m
 -- the bits of a signed number other than 0 are not 0
 pub stored_positive : (z : ℤ) → FitsSigned w8 z → 0 < unsigned_abs z → 0 < cast_unsigned w8 z
 stored_positive z h k = positive (cast_unsigned w8 z) z
-    (λ e. sym ((signed_twin w8 byte_twin).back z h) ∙ ap (cast_signed w8) e) k
+    (λ e. sym ((sign_twin w8).back z h) ∙ ap (cast_signed w8) e) k
 
 -- and back
 pub loaded_positive : (n : ℕ) → n < 2 ^ 8 → 0 < n → 0 < unsigned_abs (cast_signed w8 n)
 loaded_positive n h k = positive_signed n (cast_signed w8 n)
-    (λ e. sym ((signed_twin w8 byte_twin).again n h) ∙ ap (cast_unsigned w8) e) k
+    (λ e. sym ((sign_twin w8).again n h) ∙ ap (cast_unsigned w8) e) k
 
 -- a signed number other than 0 is stored as the unsigned one of its bits
 pub signed_non_zero_twin : IsTwin {V = NonZeroI8} {U = NonZeroU8} (λ v. FitsSigned w8 v.value)
     (λ u. u.value < 2 ^ 8) (λ v. non_zero_of (cast_unsigned w8 v.value))
     (λ u. signed_non_zero_of (cast_signed w8 u.value))
 signed_non_zero_twin =
-    let t = signed_twin w8 byte_twin in
+    let t = sign_twin w8 in
     let to = λ (v : NonZeroI8) (h : FitsSigned w8 v.value). of_value (cast_unsigned w8 v.value)
     (stored_positive v.value h v.ok) in
     let from = λ (u : NonZeroU8) (h : u.value < 2 ^ 8). of_signed_value (cast_signed w8 u.value)

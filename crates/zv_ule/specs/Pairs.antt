@@ -1,5 +1,5 @@
 -- Two parts of fixed width, one after the other.
-use Rattle.std.specs.Prelude.{◌≡◌, ℕ, List, take, drop, Option}
+use Rattle.std.specs.Prelude.{ℕ, List, take, drop, Option}
 use Rattle.zv_ule.specs.Chunks.{or_fault}
 use Rattle.zv_ule.specs.declared.error.UleError.{UleError}
 
@@ -51,10 +51,3 @@ read_six wa wb wc wd we first second third fourth fifth sixth bytes = (
   fifth (take we (drop wd (drop wc (drop wb (drop wa bytes))))),
   sixth (drop we (drop wd (drop wc (drop wb (drop wa bytes))))),
 )
-
--- make puts two parts together, first and second take them apart
-pub record IsPair {A B V : Type 0} (make : A → B → V) (first : V → A) (second : V → B) :
-    Type 0 where
-  pub front : (a : A) (b : B) → first (make a b) ≡ a
-  pub back : (a : A) (b : B) → second (make a b) ≡ b
-  pub whole : (v : V) → make (first v) (second v) ≡ v

@@ -1,18 +1,18 @@
 -- The laws of arrays, from those of their elements.
-use Rattle.std.proofs.Common.{◌≡◌, ℕ, ◌*◌, ◌/◌, ◌<◌, List, [], ◌∷◌, length, map, Option, None, refl}
+use Rattle.std.proofs.Common.{◌≡◌, ℕ, ◌*◌, ◌/◌, ◌<◌, List, [], ◌∷◌, length, map, Option, refl}
 use Rattle.std.proofs.Common.{ap, sym, ◌∙◌, arith}
 use Rattle.std.specs.Prelude.{flat_map}
 use Rattle.std.specs.List.{AllByRecursion}
 use Rattle.std.proofs.lemmas.List.{length-map}
 use Rattle.std.proofs.lemmas.Nat.{div-mul-add}
 use Rattle.zv_ule.specs.declared.error.UleError.{UleError}
-use Rattle.zv_ule.specs.Bytes.{IsBytes, IsRaw}
+use Rattle.zv_ule.specs.Bytes.{IsBytes}
 use Rattle.zv_ule.specs.Chunks.{chunks_of, first_fault, values_of}
 use Rattle.zv_ule.specs.Fixed.{IsSpelling, IsTwin}
 use Rattle.zv_ule.specs.laws.Joined.{joined_length, joined_chunks, joined_values, count_of_joined}
 use Rattle.zv_ule.specs.laws.Joined.{length-chunks, no_fault, read_pieces}
 use Rattle.zv_ule.specs.laws.PairSpellings.{joined_bytes}
-use Rattle.zv_ule.specs.laws.Spellings.{no_bytes}
+use Rattle.zv_ule.specs.laws.Spellings.{no_bytes, flip}
 
 pub joined_each : {U : Type 0} {is_u : U → Type 0} {w : ℕ} {f : List ℕ → Option UleError}
     {c : U → List ℕ} {v : List ℕ → U} (s : IsSpelling is_u w f c v) (us : List U) →
@@ -49,47 +49,22 @@ array_spelling n {w = w} {f = f} {c = c} {v = v} pos s = record {
       (read_pieces s (length b / w) b h.each (h.long ∙ ap (λ k. k * w) (sym count)) h.good).joined;
 }
 
--- n bytes are stored as they lie
-pub bytes_spelling : (n : ℕ) → IsSpelling {V = List ℕ} (IsRaw n) n (λ _. None) (λ v. v) (λ b. b)
-bytes_spelling n = record {
-  writes = λ v h. record { each = h.each; long = h.long; good = refl };
-  back = λ v h. refl;
-  reads = λ b h. record { each = h.each; long = h.long };
-  again = λ b h. refl;
+pub stored_each : {V U : Type 0} {is_value : V → Type 0} {is_stored : U → Type 0} {to : V → U}
+    {from : U → V} → IsTwin is_value is_stored to from → (vs : List V) →
+    AllByRecursion is_value vs → AllByRecursion is_stored (map to vs) × (map from (map to vs) ≡ vs)
+stored_each t [] h = (tt, refl)
+stored_each t (v ∷ vs) h =
+    let r = stored_each t vs h.1 in
+    ((t.stored v h.0, r.0), rw (t.back v h.0, r.1) refl)
+
+-- n values, each stored and loaded
+pub array_twin : {V U : Type 0} {is_value : V → Type 0} {is_stored : U → Type 0} {to : V → U}
+    {from : U → V} → IsTwin is_value is_stored to from → (n : ℕ) →
+    IsTwin {V = List V} {U = List U} (λ vs. (length vs ≡ n) × AllByRecursion is_value vs)
+    (λ us. (length us ≡ n) × AllByRecursion is_stored us) (map to) (map from)
+array_twin t n = record {
+  stored = λ vs h. (length-map _ _ ∙ h.0, (stored_each t vs h.1).0);
+  back = λ vs h. (stored_each t vs h.1).1;
+  taken = λ us h. (length-map _ _ ∙ h.0, (stored_each (flip t) us h.1).0);
+  again = λ us h. (stored_each (flip t) us h.1).1;
 }
-
--- and loaded as they are
-pub bytes_twin : (n : ℕ) → IsTwin {V = List ℕ} {U = List ℕ} (IsRaw n) (IsRaw n) (λ v. v) (λ v. v)
-bytes_twin n = record {
-  stored = λ v h. h;
-  back = λ v h. refl;
-  taken = λ v h. h;
-  again = λ v h. refl;
-}
-
-module _ {V U : Type 0} {is_value : V → Type 0} {is_stored : U → Type 0} {to : V → U} {from : U → V}
-    (t : IsTwin is_value is_stored to from) where
-  pub stored_each : (vs : List V) → AllByRecursion is_value vs →
-      AllByRecursion is_stored (map to vs) × (map from (map to vs) ≡ vs)
-  stored_each [] h = (tt, refl)
-  stored_each (v ∷ vs) h =
-      let r = stored_each vs h.1 in
-      ((t.stored v h.0, r.0), rw (t.back v h.0, r.1) refl)
-
-  pub loaded_each : (us : List U) → AllByRecursion is_stored us →
-      AllByRecursion is_value (map from us) × (map to (map from us) ≡ us)
-  loaded_each [] h = (tt, refl)
-  loaded_each (u ∷ us) h =
-      let r = loaded_each us h.1 in
-      ((t.taken u h.0, r.0), rw (t.again u h.0, r.1) refl)
-
-  -- n values, each stored and loaded
-  pub array_twin : (n : ℕ) → IsTwin {V = List V} {U = List U}
-      (λ vs. (length vs ≡ n) × AllByRecursion is_value vs)
-      (λ us. (length us ≡ n) × AllByRecursion is_stored us) (map to) (map from)
-  array_twin n = record {
-    stored = λ vs h. (length-map _ _ ∙ h.0, (stored_each vs h.1).0);
-    back = λ vs h. (stored_each vs h.1).1;
-    taken = λ us h. (length-map _ _ ∙ h.0, (loaded_each us h.1).0);
-    again = λ us h. (loaded_each us h.1).1;
-  }

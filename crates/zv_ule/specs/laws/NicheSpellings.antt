@@ -62,18 +62,14 @@ module _ {U : Type 0} {n : ℕ} {pattern : List ℕ} {is_u : U → Type 0} {w : 
       } in
       rw e (s.reads b k, s.again b k)
 
-  -- what holds an option, and no more, is stored as the option
-  pub niche_spelling : {V : Type 0} (make : Option U → V) (of : V → Option U) →
-      ((o : Option U) → of (make o) ≡ o) → ((x : V) → make (of x) ≡ x) →
-      IsSpelling {V = V} (λ x. IfSome (of x) is_u) w (niche_fault pattern f)
-      (λ x. niche_chunk pattern c (of x)) (λ b. make (niche_value pattern v b))
-  niche_spelling make of there here = record {
-    writes = λ x h. (niche_writes (of x) h).0;
-    back = λ x h. ap make (niche_writes (of x) h).1 ∙ here x;
-    reads = λ b h.
-        rw (there (niche_value pattern v b)) ((niche_reads b (bytes_eq b pattern) refl h).0);
-    again = λ b h.
-        rw (there (niche_value pattern v b)) ((niche_reads b (bytes_eq b pattern) refl h).1);
+  -- an option is stored as its value or the pattern
+  pub niche_spelling : IsSpelling {V = Option U} (λ o. IfSome o is_u) w (niche_fault pattern f)
+      (niche_chunk pattern c) (niche_value pattern v)
+  niche_spelling = record {
+    writes = λ o h. (niche_writes o h).0;
+    back = λ o h. (niche_writes o h).1;
+    reads = λ b h. (niche_reads b (bytes_eq b pattern) refl h).0;
+    again = λ b h. (niche_reads b (bytes_eq b pattern) refl h).1;
   }
 
 -- no number other than 0 is stored as 0

@@ -7,14 +7,14 @@ use Rattle.std.proofs.lemmas.List.{drop_all}
 use Rattle.std.proofs.lemmas.Int.{to_z-of_z, of_z-to_z}
 use Rattle.std.proofs.lemmas.Nat.{mod_below}
 use Rattle.std.proofs.Math.Facts.{Fits-of_z, sfits_to_z, Fits-of_lt}
-use Rattle.std.specs.Int.{Width, w8, w16, w32, w64, w128, byte_at, byte_worth, bytes_low_first}
+use Rattle.std.specs.Int.{Width, w8, w32, byte_at, byte_worth, bytes_low_first}
 use Rattle.std.specs.Int.{sum_through, to_le_bytes, from_le_bytes, cast_signed, cast_unsigned}
 use Rattle.std.specs.Prelude.{ℤ, FitsSigned}
 use mir.Val.{bits}
 use Rattle.zv_ule.specs.declared.fixed.raw_bytes.RawBytesULE.{RawBytesULE}
 use Rattle.zv_ule.specs.Bytes.{IsBytes, IsRaw, le, number}
 use Rattle.zv_ule.specs.Fixed.{IsSpelling, IsTwin}
-use Rattle.zv_ule.specs.laws.Spellings.{byte_spelling, byte_twin, more_bytes}
+use Rattle.zv_ule.specs.laws.Spellings.{byte_spelling, more_bytes, through_twin}
 use Rattle.zv_ule.specs.laws.Fields.{number-le, le-number_at, length-le, number_below}
 
 -- byte i is the lowest of what is left without those below it
@@ -64,7 +64,7 @@ whole : (n : ℕ) → n / 256 ^ 0 ≡ n
 whole n = omega arith
 
 -- a number below 256 ^ (k + 1) is k + 1 bytes, the lowest first
-number_twin : (k : ℕ) → IsTwin {V = ℕ} {U = RawBytesULE (suc k)} (λ v. v < 256 ^ suc k)
+pub number_twin : (k : ℕ) → IsTwin {V = ℕ} {U = RawBytesULE (suc k)} (λ v. v < 256 ^ suc k)
     (λ u. IsRaw (suc k) u.0) (λ v. record { 0 = bytes_low_first 0 (suc k) v })
     (λ u. sum_through (λ i. byte_worth i (slice_index u.0 i)) k)
 number_twin k =
@@ -84,57 +84,22 @@ number_twin k =
           (read_all u.0 k h.long) ∙ le-number_at (suc k) u.0 h.long h.each);
     }
 
--- a number of 16 bits is two bytes
-pub u16_twin : IsTwin {V = ℕ} {U = RawBytesULE 2} (λ v. v < 2 ^ 16) (λ u. IsRaw 2 u.0)
-    (λ v. record { 0 = to_le_bytes w16 v }) (λ u. from_le_bytes w16 u.0)
-u16_twin = number_twin 1
-
 -- a number of 32 bits is four
 pub u32_twin : IsTwin {V = ℕ} {U = RawBytesULE 4} (λ v. v < 2 ^ 32) (λ u. IsRaw 4 u.0)
     (λ v. record { 0 = to_le_bytes w32 v }) (λ u. from_le_bytes w32 u.0)
 u32_twin = number_twin 3
 
--- a number of 64 bits is eight
-pub u64_twin : IsTwin {V = ℕ} {U = RawBytesULE 8} (λ v. v < 2 ^ 64) (λ u. IsRaw 8 u.0)
-    (λ v. record { 0 = to_le_bytes w64 v }) (λ u. from_le_bytes w64 u.0)
-u64_twin = number_twin 7
-
--- a number of 128 bits is sixteen
-pub u128_twin : IsTwin {V = ℕ} {U = RawBytesULE 16} (λ v. v < 2 ^ 128) (λ u. IsRaw 16 u.0)
-    (λ v. record { 0 = to_le_bytes w128 v }) (λ u. from_le_bytes w128 u.0)
-u128_twin = number_twin 15
-
--- signed numbers are stored as the unsigned ones of their bits
-pub signed_twin : (w : Width) {U : Type 0} {is_stored : U → Type 0} {to : ℕ → U} {from : U → ℕ} →
-    IsTwin (λ v. v < 2 ^ bits w) is_stored to from → IsTwin {V = ℤ} (λ v. FitsSigned w v) is_stored
-    (λ v. to (cast_unsigned w v)) (λ u. cast_signed w (from u))
-signed_twin w {to = to} {from = from} t = record {
-  stored = λ v h. t.stored (cast_unsigned w v) (Fits-of_z h).fits;
-  back = λ v h. ap (cast_signed w) (t.back (cast_unsigned w v) (Fits-of_z h).fits) ∙
-      to_z-of_z w v h;
-  taken = λ u h. sfits_to_z (Fits-of_lt (t.taken u h));
-  again = λ u h. ap to (of_z-to_z w (from u) (t.taken u h)) ∙ t.again u h;
+-- a signed number stands for the unsigned one of its bits
+pub sign_twin : (w : Width) → IsTwin {V = ℤ} {U = ℕ} (FitsSigned w) (λ v. v < 2 ^ bits w)
+    (cast_unsigned w) (cast_signed w)
+sign_twin w = record {
+  stored = λ v h. (Fits-of_z h).fits;
+  back = λ v h. to_z-of_z w v h;
+  taken = λ u h. sfits_to_z (Fits-of_lt h);
+  again = λ u h. of_z-to_z w u h;
 }
 
 -- a signed byte is stored as the byte of its bits
 pub signed_byte_spelling : IsSpelling {V = ℤ} (λ v. FitsSigned w8 v) 1 (λ _. None)
     (λ v. cast_unsigned w8 v ∷ []) (λ b. cast_signed w8 (slice_index b 0))
-signed_byte_spelling =
-    let t = signed_twin w8 byte_twin in
-    let s = byte_spelling in
-    record {
-      writes = λ v h. s.writes (cast_unsigned w8 v) (t.stored v h);
-      back = λ v h. t.back v h;
-      reads = λ b h. t.taken (slice_index b 0) (s.reads b h);
-      again = λ b h. ap (λ x. x ∷ []) (t.again (slice_index b 0) (s.reads b h)) ∙ s.again b h;
-    }
-
--- and loaded as itself
-pub signed_byte_twin : IsTwin {V = ℤ} {U = ℤ} (λ v. FitsSigned w8 v) (λ v. FitsSigned w8 v) (λ v. v)
-    (λ v. v)
-signed_byte_twin = record {
-  stored = λ v h. h;
-  back = λ v h. refl;
-  taken = λ v h. h;
-  again = λ v h. refl;
-}
+signed_byte_spelling = through_twin (sign_twin w8) byte_spelling

@@ -1,5 +1,5 @@
 // Truth values, stored as 0 or 1.
-ghost use Rattle.std.specs.Prelude.{◌≡◌, ℕ, List, [], ◌∷◌, Option, None, length, true, refl, ⊤};
+ghost use Rattle.std.specs.Prelude.{[], ◌∷◌, true, refl, ⊤};
 ghost use Rattle.std.specs.Cmp.{on_total, bool_cmp_total};
 ghost use Rattle.std.specs.Int.{from_bool};
 ghost use Rattle.std.specs.Ordering.{on, bool_cmp};

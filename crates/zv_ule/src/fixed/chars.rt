@@ -1,6 +1,5 @@
 // Characters, stored in three bytes.
-ghost use Rattle.std.specs.Prelude.{◌≡◌, ℕ, ◌<◌, ◌≤◌, List, Option, None, length, true, refl, map};
-ghost use Rattle.std.specs.Prelude.{is_none};
+ghost use Rattle.std.specs.Prelude.{◌≡◌, ◌<◌, None, length, true, refl, map};
 ghost use Rattle.std.specs.Char.{IsScalar};
 ghost use Rattle.std.specs.Cmp.{on_total, nat_cmp_total};
 ghost use Rattle.std.specs.Ordering.{on, nat_cmp};

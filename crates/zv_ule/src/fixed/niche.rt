@@ -1,18 +1,18 @@
 // Options of values of fixed width, with no tag.
-ghost use Rattle.std.specs.Prelude.{◌≡◌, ⊤, ℕ, ◌+◌, ◌%◌, ◌/◌, ◌^◌, ◌<◌, List, [], ◌∷◌, length};
-ghost use Rattle.std.specs.Prelude.{refl, Option, None, Some, IsTrue, IfSome, is_none, bytes_eq};
-ghost use Rattle.std.specs.Prelude.{option_map, option_copied};
+ghost use Rattle.std.specs.Prelude.{◌≡◌, ℕ, ◌+◌, ◌%◌, ◌/◌, ◌^◌, ◌<◌, List, [], ◌∷◌, length, refl};
+ghost use Rattle.std.specs.Prelude.{Option, None, Some, IfSome, bytes_eq, option_map};
+ghost use Rattle.std.specs.Prelude.{option_copied};
 ghost use Rattle.std.specs.Cmp.{on_total};
 ghost use Rattle.std.specs.Cmp.Lexicographic.{options_total};
 ghost use Rattle.std.specs.Option.{option_cmp};
 ghost use Rattle.std.specs.Ordering.{on};
-ghost use Rattle.zv_ule.specs.Chunks.{chunks_of, first_fault};
 ghost use Rattle.zv_ule.specs.Fixed.{is_width};
 ghost use Rattle.zv_ule.specs.Kinds.{one_fault};
 ghost use Rattle.zv_ule.specs.Niches.{IsNiche, niched_option_of, niche_fault, niche_chunk};
 ghost use Rattle.zv_ule.specs.Niches.{niche_value, read_niche};
 ghost use Rattle.zv_ule.specs.laws.NicheSpellings.{niche_spelling, zero_is_niche};
 ghost use Rattle.zv_ule.specs.laws.OptionSpellings.{option_twin};
+ghost use Rattle.zv_ule.specs.laws.Spellings.{held_spelling, held_twins};
 ghost use Rattle.zv_ule.specs.declared.error.TyName.TheVariants.{NichedOpt};
 
 use crate::element::{AsULE, ULE};
@@ -210,8 +210,8 @@ impl<U: NicheBytes<N>, const N: usize> ULE for NichedOptionULE<U, N> {
         }
     }
 
-    ghost spelling = { niche_spelling U.free U.spelling (λ o. record { value = o }) (λ v. v.value)
-        (λ o. refl) (λ v. refl) };
+    ghost spelling = { held_spelling (niche_spelling U.free U.spelling) (λ v. v.value)
+        (λ o. record { value = o }) (λ _. refl) (λ _. refl) };
 }
 
 impl<U: AsULE, const N: usize> ZvKind for NichedOption<U, N>
@@ -286,9 +286,8 @@ where
 
     ghost name = { refl };
 
-    ghost twin = { option_twin (λ v. v.0) (λ o. record { 0 = o }) (λ u. u.value)
-        (λ o. record { value = o })
-        (λ _. refl) (λ _. refl) (λ _. refl) (λ _. refl) U.twin };
+    ghost twin = { held_twins (option_twin U.twin) (λ v. v.0) (λ o. record { 0 = o }) (λ _. refl)
+        (λ _. refl) (λ u. u.value) (λ o. record { value = o }) (λ _. refl) (λ _. refl) };
 }
 
 /// The option that bytes are read as.

@@ -1,13 +1,12 @@
 // Numbers of one byte other than 0.
-ghost use Rattle.std.specs.Prelude.{◌≡◌, ℕ, ◌<◌, ◌^◌, List, [], ◌∷◌, Option, None, Some, length};
-ghost use Rattle.std.specs.Prelude.{refl, true, slice_index, is_none, FitsSigned};
+ghost use Rattle.std.specs.Prelude.{◌<◌, ◌^◌, [], ◌∷◌, refl, true, slice_index, FitsSigned};
 ghost use Rattle.std.specs.Cmp.{on_total, nat_cmp_total, int_cmp_total};
 ghost use Rattle.std.specs.Int.{w8, cast_signed, cast_unsigned};
 ghost use Rattle.std.specs.Ordering.{on, nat_cmp, int_cmp};
 ghost use Rattle.zv_ule.specs.Kinds.{one_fault};
 ghost use Rattle.zv_ule.specs.NonZero.{non_zero_fault, non_zero_of, non_zero_value};
-ghost use Rattle.zv_ule.specs.NonZero.{non_zero_spelling, non_zero_twin, signed_non_zero_of};
-ghost use Rattle.zv_ule.specs.NonZero.{signed_non_zero_twin};
+ghost use Rattle.zv_ule.specs.NonZero.{non_zero_spelling, signed_non_zero_of, signed_non_zero_twin};
+ghost use Rattle.zv_ule.specs.laws.Spellings.{same_twin};
 ghost use Rattle.zv_ule.specs.declared.error.TyName.TheVariants.{NonZeroU8 as NonZeroU8Name};
 
 use crate::element::{AsULE, ULE, check_one};
@@ -109,7 +108,7 @@ impl AsULE for NonZeroU8 {
 
     ghost name = { refl };
 
-    ghost twin = { non_zero_twin };
+    ghost twin = { same_twin };
 }
 
 impl ZvOrd for NonZeroU8 {

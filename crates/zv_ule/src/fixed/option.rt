@@ -1,6 +1,6 @@
 // Options of values of fixed width, with a tag byte.
-ghost use Rattle.std.specs.Prelude.{◌≡◌, ℕ, ◌+◌, ◌^◌, ◌<◌, List, drop, length, refl, Option, None};
-ghost use Rattle.std.specs.Prelude.{Some, IsTrue, IfSome, option_map, ◌==◌};
+ghost use Rattle.std.specs.Prelude.{◌≡◌, ◌+◌, ◌<◌, refl, Option, None, Some, IfSome, option_map};
+ghost use Rattle.std.specs.Prelude.{◌==◌};
 ghost use Rattle.std.specs.List.{list_all};
 ghost use Rattle.std.specs.Cmp.{on_total};
 ghost use Rattle.std.specs.Cmp.Lexicographic.{options_total};
@@ -10,6 +10,7 @@ ghost use Rattle.zv_ule.specs.Kinds.{one_fault};
 ghost use Rattle.zv_ule.specs.Options.{option_of, option_fault, option_chunk, option_value};
 ghost use Rattle.zv_ule.specs.Options.{read_option};
 ghost use Rattle.zv_ule.specs.laws.OptionSpellings.{option_spelling, option_twin};
+ghost use Rattle.zv_ule.specs.laws.Spellings.{held_spelling, held_twins};
 ghost use Rattle.zv_ule.specs.declared.error.TyName.TheVariants.{Opt};
 
 use crate::element::{AsULE, ULE, check_one};
@@ -128,8 +129,8 @@ impl<U: ULE> ULE for OptionULE<U> {
         }
     }
 
-    ghost spelling = { option_spelling U.spelling (λ o. record { value = o }) (λ v. v.value)
-        (λ o. refl) (λ v. refl) };
+    ghost spelling = { held_spelling (option_spelling U.spelling) (λ v. v.value)
+        (λ o. record { value = o }) (λ _. refl) (λ _. refl) };
 }
 
 impl<U: AsULE> ZvKind for Option<U> {
@@ -178,8 +179,8 @@ impl<U: AsULE> AsULE for Option<U> {
 
     ghost name = { refl };
 
-    ghost twin = { option_twin (λ v. v) (λ o. o) (λ u. u.value) (λ o. record { value = o })
-        (λ _. refl) (λ _. refl) (λ _. refl) (λ _. refl) U.twin };
+    ghost twin = { held_twins (option_twin U.twin) (λ v. v) (λ o. o) (λ _. refl) (λ _. refl)
+        (λ u. u.value) (λ o. record { value = o }) (λ _. refl) (λ _. refl) };
 }
 
 impl<U: AsULE + Ord> ZvOrd for Option<U> {

@@ -1,5 +1,5 @@
 // What a number of two bytes or more is stored as.
-ghost use Rattle.std.specs.Prelude.{List, None, Option, length, true, ℕ, ◌<◌, ◌^◌, ◌≡◌, ◌≤◌};
+ghost use Rattle.std.specs.Prelude.{None, true, ◌<◌, ◌^◌, ◌≡◌};
 ghost use Rattle.zv_ule.specs.Bytes.{IsRaw};
 ghost use Rattle.zv_ule.specs.laws.Spellings.{raw_spelling};
 ghost use Rattle.zv_ule.specs.declared.error.TyName.{TyName};

@@ -1,5 +1,5 @@
 // Slices of values that lie in memory as they are stored.
-ghost use Rattle.std.specs.Prelude.{◌≡◌, Bool, true, false, List, IfSome, is_some, flat_map};
+ghost use Rattle.std.specs.Prelude.{◌≡◌, Bool, true, false, IfSome, is_some, flat_map};
 
 use crate::element::AsULE;
 use std::num::NonZeroU8;

@@ -1,5 +1,5 @@
 // The fields at the head of a list of elements of any length.
-ghost use Rattle.std.specs.Prelude.{◌≡◌, ℕ, ◌+◌, ◌-◌, ◌^◌, ◌<◌, ◌≤◌, List, length, Option, None};
+ghost use Rattle.std.specs.Prelude.{◌≡◌, ◌-◌, ◌^◌, ◌<◌, length};
 ghost use Rattle.zv_ule.specs.Bytes.{le, number};
 
 use crate::format::VarZeroVecFormat;

@@ -1,6 +1,6 @@
 // Arguments: values in hand that stand for an element of a kind.
-ghost use Rattle.std.specs.Prelude.{◌≡◌, ℕ, string_bytes, ◌+◌, ◌^◌, ◌<◌, ◌≤◌, Bool, List, length};
-ghost use Rattle.std.specs.Prelude.{Option, Some, None, IsTrue};
+ghost use Rattle.std.specs.Prelude.{◌≡◌, ℕ, string_bytes, ◌+◌, ◌^◌, ◌<◌, List, length, None};
+ghost use Rattle.std.specs.Prelude.{IsTrue};
 ghost use Rattle.std.specs.declared.cmp.Ordering.{Ordering};
 ghost use Rattle.zv_ule.specs.Views.{element_of};
 

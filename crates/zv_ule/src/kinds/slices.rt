@@ -1,6 +1,6 @@
 // Slices of values of fixed width.
-ghost use Rattle.std.specs.Prelude.{◌≡◌, ℕ, ◌+◌, ◌*◌, ◌/◌, ◌^◌, ◌<◌, ◌≤◌, Bool, List, length};
-ghost use Rattle.std.specs.Prelude.{Option, Some, None, IsTrue, flat_map, map, slice_get};
+ghost use Rattle.std.specs.Prelude.{◌≡◌, ◌*◌, ◌/◌, ◌<◌, length, Option, Some, None, flat_map};
+ghost use Rattle.std.specs.Prelude.{slice_get};
 ghost use Rattle.zv_ule.specs.Chunks.{chunks_fault, values_of};
 ghost use Rattle.zv_ule.specs.Fixed.{is_width};
 ghost use Rattle.zv_ule.specs.declared.error.TyName.TheVariants.{Slice};

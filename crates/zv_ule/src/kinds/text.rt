@@ -1,6 +1,5 @@
 // Texts.
-ghost use Rattle.std.specs.Prelude.{◌≡◌, ℕ, ◌<◌, ◌≤◌, ◌||◌, nat_lt, nat_le, List, length, Option};
-ghost use Rattle.std.specs.Prelude.{true, None, IsTrue, slice_range, slice_index};
+ghost use Rattle.std.specs.Prelude.{◌<◌, true, None};
 ghost use Rattle.std.specs.Cmp.Lexicographic.{slice_cmp};
 ghost use Rattle.std.specs.Ordering.{nat_cmp};
 ghost use Rattle.std.proofs.lemmas.Cmp.{nat_list_cmp_total};

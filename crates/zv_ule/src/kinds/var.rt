@@ -1,7 +1,6 @@
 // Kinds of elements of any length, and the values that have an element of such a kind.
-ghost use Rattle.std.specs.Prelude.{◌≡◌, ℕ, ◌+◌, ◌*◌, ◌^◌, ◌<◌, ◌≤◌, Bool, nat_lt, true, List};
-ghost use Rattle.std.specs.Prelude.{length, flat_map, Option, Some, None, IsTrue, IfOk};
-ghost use Rattle.std.specs.Prelude.{MatchResult, IfSome, IfNone, string_bytes};
+ghost use Rattle.std.specs.Prelude.{◌≡◌, ℕ, ◌*◌, ◌^◌, ◌<◌, Bool, nat_lt, true, List, length};
+ghost use Rattle.std.specs.Prelude.{flat_map, None, IsTrue, IfOk, string_bytes};
 ghost use Rattle.std.specs.Result.{result_err};
 ghost use Rattle.zv_ule.specs.declared.error.UleError.{UleError};
 ghost use Rattle.zv_ule.specs.Views.{element_of};

@@ -1,6 +1,5 @@
 // Views of single elements.
-ghost use Rattle.std.specs.Prelude.{◌≡◌, ⊤, ℕ, ◌+◌, ◌^◌, ◌<◌, ◌≤◌, Bool, List, length, Option};
-ghost use Rattle.std.specs.Prelude.{Some, None, IsTrue, IfOk, MatchResult, ◌↔◌};
+ghost use Rattle.std.specs.Prelude.{◌≡◌, ⊤, ◌<◌, None, IsTrue, IfOk, ◌↔◌};
 ghost use Rattle.std.specs.declared.cmp.Ordering.TheVariants.{Equal};
 ghost use Rattle.std.specs.Result.{result_err};
 ghost use Rattle.zv_ule.specs.declared.error.UleError.{UleError};

@@ -1,5 +1,5 @@
 // Which composed values compare Equal: those whose parts do.
-ghost use Rattle.std.specs.Prelude.{◌≡◌, ◌^◌, ◌<◌};
+ghost use Rattle.std.specs.Prelude.{◌^◌, ◌<◌};
 ghost use Rattle.zv_ule.specs.Kinds.{EqualIsSame};
 ghost use Rattle.zv_ule.specs.Orders.{EqualOnlyIfSame};
 

@@ -1,11 +1,11 @@
 // Arrays of bytes.
-ghost use Rattle.std.specs.Prelude.{◌≡◌, ℕ, ◌^◌, ◌<◌, List, length, refl, Option, None, IsTrue};
+ghost use Rattle.std.specs.Prelude.{◌<◌, refl, None};
 ghost use Rattle.std.specs.Cmp.{nat_cmp_total};
 ghost use Rattle.std.proofs.lemmas.Cmp.{lists_total};
-ghost use Rattle.zv_ule.specs.laws.ArraySpellings.{bytes_spelling, bytes_twin};
 ghost use Rattle.zv_ule.specs.Bytes.{IsRaw};
 ghost use Rattle.zv_ule.specs.Fixed.{is_width};
 ghost use Rattle.zv_ule.specs.Kinds.{one_fault};
+ghost use Rattle.zv_ule.specs.laws.Spellings.{bytes_spelling, same_twin};
 ghost use Rattle.zv_ule.specs.declared.error.TyName.TheVariants.{Array};
 
 use crate::element::{AsULE, ULE, check_one};
@@ -103,7 +103,7 @@ impl<const N: usize> AsULE for [u8; N] {
 
     ghost name = { refl };
 
-    ghost twin = { bytes_twin N };
+    ghost twin = { same_twin };
 }
 
 impl<const N: usize> ZvOrd for [u8; N] {

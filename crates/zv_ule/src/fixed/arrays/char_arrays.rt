@@ -1,6 +1,5 @@
 // Arrays of `char`.
-ghost use Rattle.std.specs.Prelude.{◌≡◌, ℕ, ◌*◌, ◌^◌, ◌<◌, List, flat_map, length, map, refl};
-ghost use Rattle.std.specs.Prelude.{Option, None, IsTrue};
+ghost use Rattle.std.specs.Prelude.{◌≡◌, ◌*◌, ◌<◌, flat_map, length, map, refl};
 ghost use Rattle.std.specs.Cmp.{nat_cmp_total, on_total};
 ghost use Rattle.std.specs.Char.{IsScalar};
 ghost use Rattle.std.specs.List.{AllByRecursion};

@@ -1,5 +1,5 @@
 // Several values at once, for arrays.
-ghost use Rattle.std.specs.Prelude.{◌≡◌, ℕ, ◌*◌, ◌^◌, ◌<◌, List, length, Option, None, IsTrue, map};
+ghost use Rattle.std.specs.Prelude.{◌≡◌, ℕ, ◌*◌, ◌<◌, List, length, None, IsTrue, map};
 ghost use Rattle.std.specs.List.{AllByRecursion};
 ghost use Rattle.zv_ule.specs.Chunks.{chunks_of, first_fault, values_of};
 ghost use Rattle.zv_ule.specs.Fixed.{is_width};

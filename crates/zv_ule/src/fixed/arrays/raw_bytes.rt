@@ -1,6 +1,5 @@
 // Arrays of stored numbers.
-ghost use Rattle.std.specs.Prelude.{◌≡◌, ℕ, ◌*◌, ◌^◌, ◌<◌, List, flat_map, length, Option, None};
-ghost use Rattle.std.specs.Prelude.{IsTrue};
+ghost use Rattle.std.specs.Prelude.{◌≡◌, ◌*◌, ◌<◌, flat_map, length, None};
 ghost use Rattle.std.specs.List.{AllByRecursion};
 ghost use Rattle.zv_ule.specs.laws.ArraySpellings.{array_spelling};
 ghost use Rattle.zv_ule.specs.Bytes.{IsRaw};

@@ -1,6 +1,5 @@
 // Arrays of `u64`.
-ghost use Rattle.std.specs.Prelude.{◌≡◌, ℕ, ◌*◌, ◌^◌, ◌<◌, List, length, map, refl, Option, None};
-ghost use Rattle.std.specs.Prelude.{IsTrue};
+ghost use Rattle.std.specs.Prelude.{◌≡◌, ◌*◌, ◌^◌, ◌<◌, length, map, refl, None};
 ghost use Rattle.std.specs.Cmp.{nat_cmp_total, on_total};
 ghost use Rattle.std.specs.Int.{w64, to_le_bytes, from_le_bytes};
 ghost use Rattle.std.specs.List.{AllByRecursion};
@@ -11,7 +10,7 @@ ghost use Rattle.zv_ule.specs.laws.ArraySpellings.{array_twin};
 ghost use Rattle.zv_ule.specs.Chunks.{chunks_of, first_fault};
 ghost use Rattle.zv_ule.specs.Fixed.{is_width};
 ghost use Rattle.zv_ule.specs.Kinds.{one_fault};
-ghost use Rattle.zv_ule.specs.laws.Twins.{u64_twin};
+ghost use Rattle.zv_ule.specs.laws.Twins.{number_twin};
 ghost use Rattle.zv_ule.specs.declared.error.TyName.TheVariants.{Array};
 
 use crate::element::{AsULE, ULE, check_one};
@@ -66,7 +65,7 @@ impl<const N: usize> AsULE for [u64; N] {
 
     ghost name = { refl };
 
-    ghost twin = { array_twin u64_twin N };
+    ghost twin = { array_twin (number_twin 7) N };
 }
 
 impl<const N: usize> ZvOrd for [u64; N] {

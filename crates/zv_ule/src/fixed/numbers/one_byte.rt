@@ -2,11 +2,10 @@
 ghost use Rattle.std.specs.Cmp.{int_cmp_total, nat_cmp_total, on_total};
 ghost use Rattle.std.specs.Int.{cast_signed, cast_unsigned, w8};
 ghost use Rattle.std.specs.Ordering.{int_cmp, nat_cmp, on};
-ghost use Rattle.std.specs.Prelude.{FitsSigned, List, None, Option, [], length, refl, slice_index};
-ghost use Rattle.std.specs.Prelude.{true, ℕ, ◌<◌, ◌^◌, ◌∷◌, ◌≡◌, ◌≤◌};
+ghost use Rattle.std.specs.Prelude.{FitsSigned, None, [], refl, slice_index, true, ◌<◌, ◌^◌, ◌∷◌};
 ghost use Rattle.zv_ule.specs.Kinds.{one_fault};
-ghost use Rattle.zv_ule.specs.laws.Spellings.{byte_spelling, byte_twin};
-ghost use Rattle.zv_ule.specs.laws.Twins.{signed_byte_spelling, signed_byte_twin};
+ghost use Rattle.zv_ule.specs.laws.Spellings.{byte_spelling, same_twin};
+ghost use Rattle.zv_ule.specs.laws.Twins.{signed_byte_spelling};
 ghost use Rattle.zv_ule.specs.declared.error.TyName.{TyName};
 ghost use Rattle.zv_ule.specs.declared.error.TyName.TheVariants.{I8, U8};
 
@@ -87,7 +86,7 @@ impl AsULE for u8 {
 
     ghost name = { refl };
 
-    ghost twin = { byte_twin };
+    ghost twin = { same_twin };
 }
 
 impl ZvKind for u8 {
@@ -207,7 +206,7 @@ impl AsULE for i8 {
 
     ghost name = { refl };
 
-    ghost twin = { signed_byte_twin };
+    ghost twin = { same_twin };
 }
 
 impl ZvOrd for i8 {

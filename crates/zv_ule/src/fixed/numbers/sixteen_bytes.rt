@@ -3,10 +3,10 @@ ghost use Rattle.std.proofs.Common.{lit<};
 ghost use Rattle.std.specs.Cmp.{int_cmp_total, nat_cmp_total, on_total};
 ghost use Rattle.std.specs.Int.{cast_signed, cast_unsigned, from_le_bytes, to_le_bytes, w128};
 ghost use Rattle.std.specs.Ordering.{int_cmp, nat_cmp, on};
-ghost use Rattle.std.specs.Prelude.{FitsSigned, List, None, Option, length, map, refl, true, ℕ};
-ghost use Rattle.std.specs.Prelude.{◌<◌, ◌^◌, ◌≡◌, ◌≤◌};
+ghost use Rattle.std.specs.Prelude.{FitsSigned, None, map, refl, true, ◌<◌, ◌^◌, ◌≡◌};
 ghost use Rattle.zv_ule.specs.Kinds.{one_fault};
-ghost use Rattle.zv_ule.specs.laws.Twins.{signed_twin, u128_twin};
+ghost use Rattle.zv_ule.specs.laws.Twins.{number_twin, sign_twin};
+ghost use Rattle.zv_ule.specs.laws.Spellings.{then_twin};
 ghost use Rattle.zv_ule.specs.declared.error.TyName.{TyName};
 ghost use Rattle.zv_ule.specs.declared.error.TyName.TheVariants.{RawBytes16};
 
@@ -138,7 +138,7 @@ impl AsULE for u128 {
 
     ghost name = { refl };
 
-    ghost twin = { u128_twin };
+    ghost twin = { number_twin 15 };
 }
 
 impl ZvOrd for u128 {
@@ -197,7 +197,7 @@ impl AsULE for i128 {
 
     ghost name = { refl };
 
-    ghost twin = { signed_twin w128 u128_twin };
+    ghost twin = { then_twin (sign_twin w128) (number_twin 15) };
 }
 
 impl ZvOrd for i128 {

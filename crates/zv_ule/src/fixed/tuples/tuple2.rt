@@ -1,12 +1,12 @@
 // Tuples of two values of fixed width.
-ghost use Rattle.std.specs.Prelude.{◌≡◌, ℕ, ◌+◌, ◌^◌, ◌<◌, ◌++◌, List, take, drop, length, refl};
-ghost use Rattle.std.specs.Prelude.{Option, None, IsTrue};
+ghost use Rattle.std.specs.Prelude.{◌+◌, ◌<◌, ◌++◌, take, drop, refl};
 ghost use Rattle.std.specs.Cmp.{on_total, then_total};
 ghost use Rattle.std.specs.Ordering.{on};
 ghost use Rattle.zv_ule.specs.Fixed.{is_width};
 ghost use Rattle.zv_ule.specs.Kinds.{one_fault};
 ghost use Rattle.zv_ule.specs.Pairs.{pair_fault, read_pair};
-ghost use Rattle.zv_ule.specs.laws.PairSpellings.{pair_spelling, pair_twin};
+ghost use Rattle.zv_ule.specs.laws.PairSpellings.{both_spelling, both_twin};
+ghost use Rattle.zv_ule.specs.laws.Spellings.{held_spelling, held_twins};
 ghost use Rattle.zv_ule.specs.declared.error.TyName.TheVariants.{Tuple2};
 
 use crate::element::{AsULE, ULE, check_one};
@@ -79,12 +79,10 @@ impl<A: ULE, B: ULE> ULE for Tuple2ULE<A, B> {
         self.1.write_chunk(second);
     }
 
-    ghost spelling = { pair_spelling (λ a b. record { 0 = a; 1 = b }) (λ v. v.0) (λ v. v.1)
-        (record {
-          front = λ a b. refl;
-          back = λ a b. refl;
-          whole = λ v. refl;
-        }) A.spelling B.spelling };
+    ghost spelling = { held_spelling
+        (both_spelling A.spelling B.spelling)
+        (λ v. (v.0, v.1))
+        (λ p. record { 0 = p.0; 1 = p.1 }) (λ _. refl) (λ _. refl) };
 }
 
 impl<A: AsULE, B: AsULE> ZvKind for (A, B) {
@@ -129,10 +127,12 @@ impl<A: AsULE, B: AsULE> AsULE for (A, B) {
 
     ghost name = { refl };
 
-    ghost twin = { pair_twin (λ a b. (a, b)) (λ v. v.0) (λ v. v.1)
-        (record { front = λ a b. refl; back = λ a b. refl; whole = λ v. refl })
-        (λ a b. record { 0 = a; 1 = b }) (λ u. u.0) (λ u. u.1)
-        (record { front = λ a b. refl; back = λ a b. refl; whole = λ v. refl }) A.twin B.twin };
+    ghost twin = { held_twins
+        (both_twin A.twin B.twin)
+        (λ v. v)
+        (λ p. p) (λ _. refl) (λ _. refl)
+        (λ v. (v.0, v.1))
+        (λ p. record { 0 = p.0; 1 = p.1 }) (λ _. refl) (λ _. refl) };
 }
 
 impl<A: AsULE + Ord, B: AsULE + Ord> ZvOrd for (A, B) {

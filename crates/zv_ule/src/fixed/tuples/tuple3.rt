@@ -1,13 +1,12 @@
 // Tuples of three values of fixed width.
-ghost use Rattle.std.specs.Prelude.{◌≡◌, ℕ, ◌+◌, ◌^◌, ◌<◌, ◌++◌, List, take, drop, length, refl};
-ghost use Rattle.std.specs.Prelude.{Option, None, IsTrue};
+ghost use Rattle.std.specs.Prelude.{◌+◌, ◌<◌, ◌++◌, take, drop, refl};
 ghost use Rattle.std.specs.Cmp.{on_total, then_total};
 ghost use Rattle.std.specs.Ordering.{on};
 ghost use Rattle.zv_ule.specs.Fixed.{is_width};
 ghost use Rattle.zv_ule.specs.Kinds.{one_fault};
 ghost use Rattle.zv_ule.specs.Pairs.{pair_fault, read_three};
-ghost use Rattle.zv_ule.specs.laws.PairSpellings.{pair_spelling, pair_twin, both_spelling};
-ghost use Rattle.zv_ule.specs.laws.PairSpellings.{both_twin};
+ghost use Rattle.zv_ule.specs.laws.PairSpellings.{both_spelling, both_twin};
+ghost use Rattle.zv_ule.specs.laws.Spellings.{held_spelling, held_twins};
 ghost use Rattle.zv_ule.specs.declared.error.TyName.TheVariants.{Tuple3};
 
 use crate::element::{AsULE, ULE, check_one};
@@ -87,11 +86,10 @@ impl<A: ULE, B: ULE, C: ULE> ULE for Tuple3ULE<A, B, C> {
         Tuple2ULE(self.1, self.2).write_chunk(others);
     }
 
-    ghost spelling = { pair_spelling {B = B × C} (λ a p. record { 0 = a; 1 = p.0; 2 = p.1 })
-        (λ v. v.0)
-        (λ v. (v.1, v.2))
-        (record { front = λ a p. refl; back = λ a p. refl; whole = λ v. refl }) A.spelling
-        (both_spelling B.spelling C.spelling) };
+    ghost spelling = { held_spelling
+        (both_spelling A.spelling (both_spelling B.spelling C.spelling))
+        (λ v. (v.0, (v.1, v.2)))
+        (λ p. record { 0 = p.0; 1 = p.1.0; 2 = p.1.1 }) (λ _. refl) (λ _. refl) };
 }
 
 impl<A: AsULE, B: AsULE, C: AsULE> ZvKind for (A, B, C) {
@@ -142,11 +140,12 @@ impl<A: AsULE, B: AsULE, C: AsULE> AsULE for (A, B, C) {
 
     ghost name = { refl };
 
-    ghost twin = { pair_twin {B = B × C} (λ a p. (a, p.0, p.1)) (λ v. v.0) (λ v. (v.1, v.2))
-        (record { front = λ a p. refl; back = λ a p. refl; whole = λ v. refl })
-        {D = B.ULE × C.ULE} (λ a p. record { 0 = a; 1 = p.0; 2 = p.1 }) (λ v. v.0) (λ v. (v.1, v.2))
-        (record { front = λ a p. refl; back = λ a p. refl; whole = λ v. refl }) A.twin
-        (both_twin B.twin C.twin) };
+    ghost twin = { held_twins
+        (both_twin A.twin (both_twin B.twin C.twin))
+        (λ v. (v.0, (v.1, v.2)))
+        (λ p. (p.0, p.1.0, p.1.1)) (λ _. refl) (λ _. refl)
+        (λ v. (v.0, (v.1, v.2)))
+        (λ p. record { 0 = p.0; 1 = p.1.0; 2 = p.1.1 }) (λ _. refl) (λ _. refl) };
 }
 
 impl<A: AsULE + Ord, B: AsULE + Ord, C: AsULE + Ord> ZvOrd for (A, B, C) {

@@ -1,13 +1,12 @@
 // Tuples of six values of fixed width.
-ghost use Rattle.std.specs.Prelude.{◌≡◌, ℕ, ◌+◌, ◌^◌, ◌<◌, ◌++◌, List, take, drop, length, refl};
-ghost use Rattle.std.specs.Prelude.{Option, None, IsTrue};
+ghost use Rattle.std.specs.Prelude.{◌+◌, ◌<◌, ◌++◌, take, drop, refl};
 ghost use Rattle.std.specs.Cmp.{on_total, then_total};
 ghost use Rattle.std.specs.Ordering.{on};
 ghost use Rattle.zv_ule.specs.Fixed.{is_width};
 ghost use Rattle.zv_ule.specs.Kinds.{one_fault};
 ghost use Rattle.zv_ule.specs.Pairs.{pair_fault, read_six};
-ghost use Rattle.zv_ule.specs.laws.PairSpellings.{pair_spelling, pair_twin, both_spelling};
-ghost use Rattle.zv_ule.specs.laws.PairSpellings.{both_twin};
+ghost use Rattle.zv_ule.specs.laws.PairSpellings.{both_spelling, both_twin};
+ghost use Rattle.zv_ule.specs.laws.Spellings.{held_spelling, held_twins};
 ghost use Rattle.zv_ule.specs.declared.error.TyName.TheVariants.{Tuple6};
 
 use crate::element::{AsULE, ULE, check_one};
@@ -98,13 +97,21 @@ impl<A: ULE, B: ULE, C: ULE, D: ULE, E: ULE, F: ULE> ULE for Tuple6ULE<A, B, C, 
         Tuple5ULE(self.1, self.2, self.3, self.4, self.5).write_chunk(others);
     }
 
-    ghost spelling = { pair_spelling {B = B × (C × (D × (E × F)))}
-        (λ a p. record { 0 = a; 1 = p.0; 2 = p.1.0; 3 = p.1.1.0; 4 = p.1.1.1.0; 5 = p.1.1.1.1 })
-        (λ v. v.0) (λ v. (v.1, (v.2, (v.3, (v.4, v.5)))))
-        (record { front = λ a p. refl; back = λ a p. refl; whole = λ v. refl }) A.spelling
+    ghost spelling = { held_spelling
+        (both_spelling A.spelling
         (both_spelling B.spelling
         (both_spelling C.spelling
-        (both_spelling D.spelling (both_spelling E.spelling F.spelling)))) };
+        (both_spelling D.spelling (both_spelling E.spelling F.spelling)))))
+        (λ v. (v.0, (v.1, (v.2, (v.3, (v.4, v.5))))))
+        (λ p. record {
+          0 = p.0;
+          1 = p.1.0;
+          2 = p.1.1.0;
+          3 = p.1.1.1.0;
+          4 = p.1.1.1.1.0;
+          5 = p.1.1.1.1.1;
+        })
+        (λ _. refl) (λ _. refl) };
 }
 
 impl<A: AsULE, B: AsULE, C: AsULE, D: AsULE, E: AsULE, F: AsULE> ZvKind for (A, B, C, D, E, F) {
@@ -185,15 +192,21 @@ impl<A: AsULE, B: AsULE, C: AsULE, D: AsULE, E: AsULE, F: AsULE> AsULE for (A, B
 
     ghost name = { refl };
 
-    ghost twin = { pair_twin {B = B × (C × (D × (E × F)))}
-        (λ a p. (a, p.0, p.1.0, p.1.1.0, p.1.1.1.0, p.1.1.1.1)) (λ v. v.0)
-        (λ v. (v.1, (v.2, (v.3, (v.4, v.5)))))
-        (record { front = λ a p. refl; back = λ a p. refl; whole = λ v. refl })
-        {D = B.ULE × (C.ULE × (D.ULE × (E.ULE × F.ULE)))}
-        (λ a p. record { 0 = a; 1 = p.0; 2 = p.1.0; 3 = p.1.1.0; 4 = p.1.1.1.0; 5 = p.1.1.1.1 })
-        (λ v. v.0) (λ v. (v.1, (v.2, (v.3, (v.4, v.5)))))
-        (record { front = λ a p. refl; back = λ a p. refl; whole = λ v. refl }) A.twin
-        (both_twin B.twin (both_twin C.twin (both_twin D.twin (both_twin E.twin F.twin)))) };
+    ghost twin = { held_twins
+        (both_twin A.twin
+        (both_twin B.twin (both_twin C.twin (both_twin D.twin (both_twin E.twin F.twin)))))
+        (λ v. (v.0, (v.1, (v.2, (v.3, (v.4, v.5))))))
+        (λ p. (p.0, p.1.0, p.1.1.0, p.1.1.1.0, p.1.1.1.1.0, p.1.1.1.1.1)) (λ _. refl) (λ _. refl)
+        (λ v. (v.0, (v.1, (v.2, (v.3, (v.4, v.5))))))
+        (λ p. record {
+          0 = p.0;
+          1 = p.1.0;
+          2 = p.1.1.0;
+          3 = p.1.1.1.0;
+          4 = p.1.1.1.1.0;
+          5 = p.1.1.1.1.1;
+        })
+        (λ _. refl) (λ _. refl) };
 }
 
 impl<

@@ -1,4 +1,4 @@
-use Rattle.std.proofs.Common.{refl, ap, sym, ◌∙◌}
+use Rattle.std.proofs.Common.{ap, sym, ◌∙◌}
 use Rattle.std.specs.Prelude.{option_map}
 use Rattle.zv_ule.specs.declared.error.TyName.TheVariants.{NichedOpt}
 use Rattle.zv_ule.specs.laws.NicheSpellings.{niche_spelling}
@@ -14,8 +14,7 @@ pub returns : goal.returns
 returns g c a b bytes_a bytes_b good_a good_b equal =
     let pattern = g.U.ULE.NicheBytes.NICHE_BIT_PATTERN in
     let fault = niche_fault pattern g.U.ULE.ULE.chunk_fault in
-    let s = through_twin (option_twin (λ o. o) (λ o. o) (λ o. o) (λ o. o) (λ _. refl) (λ _. refl) (λ _. refl) (λ _. refl) g.met.U.AsULE.twin)
-    (niche_spelling g.met.U.ULE.NicheBytes.free g.met.U.ULE.ULE.spelling (λ o. o) (λ o. o) (λ _. refl) (λ _. refl)) in
+    let s = through_twin (option_twin g.met.U.AsULE.twin) (niche_spelling g.met.U.ULE.NicheBytes.free g.met.U.ULE.ULE.spelling) in
     let p = one_good NichedOpt g.U.ULE.ULE.width fault a good_a in
     let q = one_good NichedOpt g.U.ULE.ULE.width fault b good_b in
     let of_a : IsChunk g.U.ULE.ULE.width fault a = record { each = bytes_a; long = p.0; good = p.1 } in
