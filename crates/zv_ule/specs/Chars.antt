@@ -1,9 +1,7 @@
 -- Characters in three bytes.
 use Rattle.std.proofs.Common.{◌≡◌, ℕ, ◌+◌, ◌*◌, ◌<◌, ◌^◌, ◌%◌, ◌/◌, List, [], ◌∷◌, length, Option}
-use Rattle.std.proofs.Common.{Some, None, refl, arith, slice_index, if◌then◌else◌, Bool, true}
-use Rattle.std.proofs.Common.{false, inl, inr}
+use Rattle.std.proofs.Common.{Some, None, refl, arith, slice_index, if◌then◌else◌, true, inl, inr}
 use Rattle.std.proofs.Math.Utf8.{scalar, scalar_cases}
-use Rattle.std.proofs.lemmas.Nat.{mod_below}
 use Rattle.std.specs.Char.{IsScalar}
 use Rattle.zv_ule.specs.declared.fixed.chars.CharULE.{CharULE}
 use Rattle.zv_ule.specs.declared.error.TyName.TheVariants.{Char}
@@ -11,7 +9,8 @@ use Rattle.zv_ule.specs.declared.error.UleError.{UleError}
 use Rattle.zv_ule.specs.declared.error.UleError.TheVariants.{ParseError}
 use Rattle.zv_ule.specs.Bytes.{IsBytes}
 use Rattle.zv_ule.specs.Fixed.{IsSpelling, IsTwin}
-use Rattle.zv_ule.specs.laws.Spellings.{no_bytes, more_bytes, flip, held_spelling, held_twin}
+use Rattle.zv_ule.specs.laws.Spellings.{no_bytes, more_bytes, unless_true, flip}
+use Rattle.zv_ule.specs.laws.Spellings.{held_spelling, held_twin}
 
 -- the character that is stored
 abbrev pub char_of : CharULE → ℕ
@@ -28,10 +27,6 @@ char_bytes c = c % 256 ∷ (c / 256 % 256 ∷ (c / 65536 % 256 ∷ []))
 -- the error of a chunk: a character is at most 0x10FFFF and no surrogate
 abbrev pub char_fault : List ℕ → Option UleError
 char_fault b = if scalar (char_code b) then None else Some (ParseError Char)
-
-three_bytes : (x y z : ℕ) → x < 256 → y < 256 → z < 256 → IsBytes (x ∷ (y ∷ (z ∷ [])))
-three_bytes x y z p q r = more_bytes x (y ∷ (z ∷ [])) p
-    (more_bytes y (z ∷ []) q (more_bytes z [] r no_bytes))
 
 code_back : (c : ℕ) → c < 2 ^ 24 → char_code (char_bytes c) ≡ c
 code_back c h = omega arith
@@ -54,22 +49,17 @@ bytes_back (x ∷ y ∷ z ∷ w ∷ ws) h e = absurd (omega (arith, e))
 scalar_small : (c : ℕ) → scalar c ≡ true → c < 2 ^ 24
 scalar_small c h = elim (scalar_cases c h) [ inl p ↦ omega (arith, p) | inr p ↦ omega (arith, p.1) ]
 
-scalar_if : (t : Bool) → (if t then None else Some (ParseError Char)) ≡ None → t ≡ true
-scalar_if true h = refl
-scalar_if false h = cc
-
 -- a character is stored as the low three bytes of its number
 code_spelling : IsSpelling {V = ℕ} IsScalar 3 char_fault char_bytes char_code
 code_spelling = record {
   writes = λ c h. record {
-    each = three_bytes (c % 256) (c / 256 % 256) (c / 65536 % 256)
-        (mod_below c 256 (omega arith)) (mod_below (c / 256) 256 (omega arith))
-        (mod_below (c / 65536) 256 (omega arith));
+    each = more_bytes _ _ (omega arith)
+        (more_bytes _ _ (omega arith) (more_bytes _ _ (omega arith) no_bytes));
     long = refl;
     good = rw (code_back c (scalar_small c h), h) refl;
   };
   back = λ c h. code_back c (scalar_small c h);
-  reads = λ b h. scalar_if (scalar (char_code b)) h.good;
+  reads = λ b h. unless_true (scalar (char_code b)) (ParseError Char) h.good;
   again = λ b h. bytes_back b h.each h.long;
 }
 

@@ -76,24 +76,14 @@ non_zero_spelling = record {
   again = λ b h. ap (λ n. n ∷ []) (value_of (slice_index b 0) h.good) ∙ one_byte b h.long;
 }
 
-positive : (n : ℕ) (z : ℤ) → (n ≡ 0 → z ≡ pos 0) → 0 < unsigned_abs z → 0 < n
-positive zero z h k = absurd (omega (arith, ap unsigned_abs (h refl), k))
-positive (suc n) z h k = zero-lt-suc n
+-- what is 0 only where m is, m being more than 0
+positive : (n m : ℕ) → (n ≡ 0 → m ≡ 0) → 0 < m → 0 < n
+positive zero m h k = absurd (omega (arith, h refl, k))
+positive (suc n) m h k = zero-lt-suc n
 
-positive_signed : (n : ℕ) (z : ℤ) → (z ≡ pos 0 → n ≡ 0) → 0 < n → 0 < unsigned_abs z
-positive_signed n (pos zero) h k = absurd (omega (arith, h refl, k))
-positive_signed n (pos (suc m)) h k = zero-lt-suc m
-positive_signed n (negsuc m) h k = zero-lt-suc m
-
--- the bits of a signed number other than 0 are not 0
-pub stored_positive : (z : ℤ) → FitsSigned w8 z → 0 < unsigned_abs z → 0 < cast_unsigned w8 z
-stored_positive z h k = positive (cast_unsigned w8 z) z
-    (λ e. sym ((sign_twin w8).back z h) ∙ ap (cast_signed w8) e) k
-
--- and back
-pub loaded_positive : (n : ℕ) → n < 2 ^ 8 → 0 < n → 0 < unsigned_abs (cast_signed w8 n)
-loaded_positive n h k = positive_signed n (cast_signed w8 n)
-    (λ e. sym ((sign_twin w8).again n h) ∙ ap (cast_unsigned w8) e) k
+size_zero : (z : ℤ) → unsigned_abs z ≡ 0 → z ≡ pos 0
+size_zero (pos n) e = ap pos e
+size_zero (negsuc n) e = absurd (omega (arith, e))
 
 -- a signed number other than 0 is stored as the unsigned one of its bits
 pub signed_non_zero_twin : IsTwin {V = NonZeroI8} {U = NonZeroU8} (λ v. FitsSigned w8 v.value)
@@ -102,9 +92,12 @@ pub signed_non_zero_twin : IsTwin {V = NonZeroI8} {U = NonZeroU8} (λ v. FitsSig
 signed_non_zero_twin =
     let t = sign_twin w8 in
     let to = λ (v : NonZeroI8) (h : FitsSigned w8 v.value). of_value (cast_unsigned w8 v.value)
-    (stored_positive v.value h v.ok) in
+    (positive (cast_unsigned w8 v.value) (unsigned_abs v.value)
+    (λ e. ap unsigned_abs (sym (t.back v.value h) ∙ ap (cast_signed w8) e)) v.ok) in
     let from = λ (u : NonZeroU8) (h : u.value < 2 ^ 8). of_signed_value (cast_signed w8 u.value)
-    (loaded_positive u.value h u.ok) in
+    (positive (unsigned_abs (cast_signed w8 u.value)) u.value
+    (λ e. sym (t.again u.value h) ∙ ap (cast_unsigned w8) (size_zero (cast_signed w8 u.value) e))
+    u.ok) in
     record {
       stored = λ v h. subst (λ (u : NonZeroU8). u.value < 2 ^ 8) (sym (to v h))
           (t.stored v.value h);

@@ -1,6 +1,6 @@
 -- The laws of options without a tag, from those of their values.
 use Rattle.std.proofs.Common.{◌≡◌, ℕ, List, [], ◌∷◌, Option, Some, None, refl, ap, sym, ◌∙◌, Bool}
-use Rattle.std.proofs.Common.{true, false, if◌then◌else◌, arith, lit<}
+use Rattle.std.proofs.Common.{true, false, if◌then◌else◌, subst, arith, lit<}
 use Rattle.std.proofs.lemmas.Slice.Eq.{bytes_eq-Decides}
 use Rattle.std.specs.Prelude.{IfSome, bytes_eq}
 use Rattle.zv_ule.specs.declared.error.UleError.{UleError}
@@ -11,20 +11,8 @@ use Rattle.zv_ule.specs.NonZero.{non_zero_fault}
 use Rattle.zv_ule.specs.laws.Spellings.{no_bytes, more_bytes}
 use Rattle.zv_ule.specs.Niches.{IsNiche, niche_fault, niche_chunk, niche_value}
 
-pub same_is : (a b : List ℕ) → a ≡ b → bytes_eq a b ≡ true
-same_is a b e = grind (arith, bytes_eq-Decides)
-
 pub is_same : (a b : List ℕ) → bytes_eq a b ≡ true → a ≡ b
 is_same a b e = grind (arith, bytes_eq-Decides)
-
-pub either : (t : Bool) (o : Option UleError) → o ≡ None → (if t then None else o) ≡ None
-either true o h = refl
-either false o h = h
-
-pub fault_else : (t : Bool) (o : Option UleError) → t ≡ false → (if t then None else o) ≡ None →
-    o ≡ None
-fault_else true o e h = cc
-fault_else false o e h = h
 
 pub not_pattern : {n w : ℕ} {f : List ℕ → Option UleError} {pattern : List ℕ}
     (niche : IsNiche n w f pattern) (b : List ℕ) (t : Bool) → bytes_eq b pattern ≡ t → f b ≡ None →
@@ -42,13 +30,15 @@ module _ {U : Type 0} {n : ℕ} {pattern : List ℕ} {is_u : U → Type 0} {w : 
       IsChunk w (niche_fault pattern f) (niche_chunk pattern c o)
       × (niche_value pattern v (niche_chunk pattern c o) ≡ o)
   niche_writes None h =
-      let same = same_is pattern pattern refl in
+      let same : bytes_eq pattern pattern ≡ true = grind (arith, bytes_eq-Decides) in
       (record { each = niche.each; long = niche.long; good = rw same refl }, rw same refl)
   niche_writes (Some u) h =
       let p = s.writes u h in
       let no = not_pattern niche (c u) (bytes_eq (c u) pattern) refl p.good in
-      let good = either (bytes_eq (c u) pattern) (f (c u)) p.good in
-      (record { each = p.each; long = p.long; good = good }, rw no (ap Some (s.back u h)))
+      (
+        record { each = p.each; long = p.long; good = rw no p.good },
+        rw no (ap Some (s.back u h)),
+      )
 
   pub niche_reads : (b : List ℕ) (t : Bool) → bytes_eq b pattern ≡ t →
       IsChunk w (niche_fault pattern f) b →
@@ -58,7 +48,7 @@ module _ {U : Type 0} {n : ℕ} {pattern : List ℕ} {is_u : U → Type 0} {w : 
       let k : IsChunk w f b = record {
         each = h.each;
         long = h.long;
-        good = fault_else (bytes_eq b pattern) (f b) e h.good;
+        good = subst (λ t. (if t then None else f b) ≡ None) e h.good;
       } in
       rw e (s.reads b k, s.again b k)
 

@@ -1,6 +1,6 @@
 -- The laws of options, from those of their values.
 use Rattle.std.proofs.Common.{◌≡◌, ℕ, zero, suc, ◌+◌, List, [], ◌∷◌, length, Option, Some, None}
-use Rattle.std.proofs.Common.{refl, ap, ◌∙◌, arith, Bool, true, false, if◌then◌else◌, eqb}
+use Rattle.std.proofs.Common.{refl, ap, ◌∙◌, arith, true, eqb}
 use Rattle.std.specs.Prelude.{IfSome, replicate, option_map}
 use Rattle.std.specs.List.{list_all}
 use Rattle.std.proofs.lemmas.Grind.{common_steps}
@@ -13,7 +13,7 @@ use Rattle.zv_ule.specs.Bytes.{IsBytes}
 use Rattle.zv_ule.specs.Fixed.{IsChunk, IsSpelling, IsTwin}
 use Rattle.zv_ule.specs.Options.{option_fault, option_chunk, option_value}
 use Rattle.zv_ule.specs.laws.Fields.{later_bytes}
-use Rattle.zv_ule.specs.laws.Spellings.{no_bytes, more_bytes, flip}
+use Rattle.zv_ule.specs.laws.Spellings.{no_bytes, more_bytes, unless_true, flip}
 
 pub all_zero : (n : ℕ) → list_all (λ x. eqb x 0) (replicate n 0) ≡ true
 all_zero zero = refl
@@ -27,10 +27,6 @@ zeros_are (suc x ∷ bs) h = grind (arith, nat_tests, common_steps)
 pub zero_bytes : (n : ℕ) → IsBytes (replicate n 0)
 zero_bytes zero = no_bytes
 zero_bytes (suc n) = more_bytes 0 (replicate n 0) (omega arith) (zero_bytes n)
-
-pub unless_true : (t : Bool) (e : UleError) → (if t then None else Some e) ≡ None → t ≡ true
-unless_true true e h = refl
-unless_true false e h = cc
 
 module _ {U : Type 0} {is_u : U → Type 0} {w : ℕ} {f : List ℕ → Option UleError}
     {c : U → List ℕ} {v : List ℕ → U} (s : IsSpelling is_u w f c v) where

@@ -1,6 +1,7 @@
 -- What the types at hand are stored as, and that it reads back: the laws that their impls give.
-use Rattle.std.proofs.Common.{◌≡◌, ℕ, ◌<◌, ◌^◌, List, [], ◌∷◌, length, Option, None, refl, ap, sym}
-use Rattle.std.proofs.Common.{◌∙◌, arith, slice_index, subst, zero, suc}
+use Rattle.std.proofs.Common.{◌≡◌, ℕ, ◌<◌, ◌^◌, List, [], ◌∷◌, length, Option, Some, None, refl, ap}
+use Rattle.std.proofs.Common.{sym, ◌∙◌, arith, slice_index, subst, zero, suc, Bool, true, false}
+use Rattle.std.proofs.Common.{if◌then◌else◌}
 use Rattle.std.proofs.lemmas.Grind.{common_steps}
 use Rattle.zv_ule.specs.declared.error.UleError.{UleError}
 use Rattle.zv_ule.specs.declared.fixed.raw_bytes.RawBytesULE.{RawBytesULE}
@@ -69,6 +70,10 @@ pub held_spelling : {U : Type 0} {is_u : U → Type 0} {w : ℕ} {f : List ℕ �
 held_spelling s of make there here = through_twin (held_twin of make there here) s
 
 -- ---- bytes
+
+pub unless_true : (t : Bool) (e : UleError) → (if t then None else Some e) ≡ None → t ≡ true
+unless_true true e h = refl
+unless_true false e h = cc
 
 -- a byte string of one byte is its first byte
 pub one_byte : (b : List ℕ) → length b ≡ 1 → slice_index b 0 ∷ [] ≡ b
