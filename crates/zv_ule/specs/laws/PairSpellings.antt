@@ -1,5 +1,5 @@
 -- The laws of two parts, from those of each.
-use Rattle.std.proofs.Common.{ℕ, ◌+◌, ◌-◌, ◌≤◌, List, ◌++◌, length, take, drop, Option, refl}
+use Rattle.std.proofs.Common.{ℕ, ◌+◌, ◌-◌, ◌≤◌, List, ◌++◌, length, take, drop, Option}
 use Rattle.std.proofs.Common.{◌∙◌, arith, length-append}
 use Rattle.std.proofs.lemmas.Grind.{common_steps}
 use Rattle.std.proofs.lemmas.List.{take-append-drop, length-drop, length-take-le}
@@ -24,21 +24,18 @@ pub both_spelling : {A B : Type 0}
     → IsSpelling {V = A × B} (λ v. is_a v.0 × is_b v.1) (wa + wb) (pair_fault wa fa fb)
     (λ v. ca v.0 ++ cb v.1) (read_pair wa va vb)
 both_spelling {wa = wa} {fa = fa} {ca = ca} s {wb = wb} {fb = fb} {cb = cb} t =
-    let first_chunk : (b : List ℕ) → IsChunk (wa + wb) (pair_fault wa fa fb) b →
-    IsChunk wa fa (take wa b) = λ b h.
+    let parts : (b : List ℕ) → IsChunk (wa + wb) (pair_fault wa fa fb) b →
+    IsChunk wa fa (take wa b) × IsChunk wb fb (drop wa b) = λ b h.
     let le : wa ≤ length b = omega (arith, h.long) in
-    record {
-      each = front_bytes wa b h.each le;
-      long = length-take-le wa b le;
-      good = (or_none (fa (take wa b)) (fb (drop wa b)) h.good).0;
-    } in
-    let second_chunk : (b : List ℕ) → IsChunk (wa + wb) (pair_fault wa fa fb) b →
-    IsChunk wb fb (drop wa b) = λ b h.
-    record {
-      each = back_bytes wa b h.each;
-      long = length-drop wa b ∙ omega (arith, h.long);
-      good = (or_none (fa (take wa b)) (fb (drop wa b)) h.good).1;
-    } in
+    let good = or_none (fa (take wa b)) (fb (drop wa b)) h.good in
+    (
+      record { each = front_bytes wa b h.each le; long = length-take-le wa b le; good = good.0 },
+      record {
+        each = back_bytes wa b h.each;
+        long = length-drop wa b ∙ omega (arith, h.long);
+        good = good.1;
+      },
+    ) in
     record {
       writes = λ v h.
           let p = s.writes v.0 h.0 in
@@ -46,27 +43,14 @@ both_spelling {wa = wa} {fa = fa} {ca = ca} s {wb = wb} {fb = fb} {cb = cb} t =
           record {
             each = joined_bytes (ca v.0) (cb v.1) p.each q.each;
             long = length-append (ca v.0) (cb v.1) ∙ omega (arith, p.long, q.long);
-            good =
-                rw (
-                  front_of wa (ca v.0) (cb v.1) p.long,
-                  back_of wa (ca v.0) (cb v.1) p.long,
-                  p.good,
-                ) q.good;
+            good = rw (front_of wa _ (cb v.1) p.long, back_of wa _ (cb v.1) p.long, p.good) q.good;
           };
       back = λ v h.
           let p = s.writes v.0 h.0 in
-          rw (
-            front_of wa (ca v.0) (cb v.1) p.long,
-            back_of wa (ca v.0) (cb v.1) p.long,
-            s.back v.0 h.0,
-            t.back v.1 h.1,
-          ) refl;
-      reads = λ b h. (
-        s.reads (take wa b) (first_chunk b h),
-        t.reads (drop wa b) (second_chunk b h),
-      );
-      again = λ b h.
-          rw (s.again (take wa b) (first_chunk b h), t.again (drop wa b) (second_chunk b h))
+          rw (front_of wa _ (cb v.1) p.long, back_of wa _ (cb v.1) p.long)
+          (λ i. (s.back v.0 h.0 i, t.back v.1 h.1 i));
+      reads = λ b h. (s.reads (take wa b) (parts b h).0, t.reads (drop wa b) (parts b h).1);
+      again = λ b h. rw (s.again (take wa b) (parts b h).0, t.again (drop wa b) (parts b h).1)
           (take-append-drop wa b);
     }
 
