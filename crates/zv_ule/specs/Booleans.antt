@@ -33,22 +33,19 @@ bit_back zero h = refl
 bit_back (suc zero) h = refl
 bit_back (suc (suc n)) h = cc
 
-bool_writes : (v : Bool) → IsChunk 1 bool_fault (from_bool v ∷ []) ×
-    (bool_value (from_bool v ∷ []) ≡ v)
-bool_writes true = (
-  record { each = more_bytes 1 [] (lit< tt) no_bytes; long = refl; good = refl },
-  refl,
-)
-bool_writes false = (
-  record { each = more_bytes 0 [] (lit< tt) no_bytes; long = refl; good = refl },
-  refl,
-)
+value_back : (v : Bool) → bit_value (from_bool v) ≡ v
+value_back true = refl
+value_back false = refl
+
+bool_chunk : (v : Bool) → IsChunk 1 bool_fault (from_bool v ∷ [])
+bool_chunk true = record { each = more_bytes 1 [] (lit< tt) no_bytes; long = refl; good = refl }
+bool_chunk false = record { each = more_bytes 0 [] (lit< tt) no_bytes; long = refl; good = refl }
 
 -- a truth value is stored as 0 or 1
 pub bool_spelling : IsSpelling {V = Bool} (λ _. ⊤) 1 bool_fault (λ v. from_bool v ∷ []) bool_value
 bool_spelling = record {
-  writes = λ v h. (bool_writes v).0;
-  back = λ v h. (bool_writes v).1;
+  writes = λ v h. bool_chunk v;
+  back = λ v h. value_back v;
   reads = λ b h. tt;
   again = λ b h. ap (λ n. n ∷ []) (bit_back (slice_index b 0) h.good) ∙ one_byte b h.long;
 }

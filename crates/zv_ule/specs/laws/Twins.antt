@@ -5,7 +5,6 @@ use Rattle.std.proofs.Math.Nat.{div-div-eq-div-mul, pow-suc}
 use Rattle.std.proofs.Math.Seq.{drop-cons}
 use Rattle.std.proofs.lemmas.List.{drop_all}
 use Rattle.std.proofs.lemmas.Int.{to_z-of_z, of_z-to_z}
-use Rattle.std.proofs.lemmas.Nat.{mod_below}
 use Rattle.std.proofs.Math.Facts.{Fits-of_z, sfits_to_z, Fits-of_lt}
 use Rattle.std.specs.Int.{Width, w8, w32, byte_at, byte_worth, bytes_low_first}
 use Rattle.std.specs.Int.{sum_through, to_le_bytes, from_le_bytes, cast_signed, cast_unsigned}
@@ -57,17 +56,14 @@ read_all b k h =
 
 small_bytes : (w n : ℕ) → IsBytes (le w n)
 small_bytes zero n = record { at = λ i. omega arith }
-small_bytes (suc w) n = more_bytes (n % 256) (le w (n / 256)) (mod_below n 256 (omega arith))
-    (small_bytes w (n / 256))
-
-whole : (n : ℕ) → n / 256 ^ 0 ≡ n
-whole n = omega arith
+small_bytes (suc w) n = more_bytes (n % 256) _ (omega arith) (small_bytes w (n / 256))
 
 -- a number below 256 ^ (k + 1) is k + 1 bytes, the lowest first
 pub number_twin : (k : ℕ) → IsTwin {V = ℕ} {U = RawBytesULE (suc k)} (λ v. v < 256 ^ suc k)
     (λ u. IsRaw (suc k) u.0) (λ v. record { 0 = bytes_low_first 0 (suc k) v })
     (λ u. sum_through (λ i. byte_worth i (slice_index u.0 i)) k)
 number_twin k =
+    let whole : (v : ℕ) → v / 256 ^ 0 ≡ v = λ v. omega arith in
     let written = λ (v : ℕ). upward 0 (suc k) v ∙ ap (le (suc k)) (whole v) in
     let long = λ (v : ℕ). ap length (written v) ∙ length-le (suc k) v in
     record {
