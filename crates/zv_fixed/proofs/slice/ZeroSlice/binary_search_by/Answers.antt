@@ -1,4 +1,4 @@
-use Rattle.std.proofs.Common.{◌≡◌, ◌+◌, ◌-◌, ◌/◌, [], ◌∷◌, ◌++◌, map, refl, ◌∙◌, arith}
+use Rattle.std.proofs.Common.{◌≡◌, ◌+◌, ◌-◌, ◌/◌, [], ◌∷◌, ◌++◌, map, ◌∙◌, arith}
 use Rattle.std.proofs.lemmas.List.{length-map}
 use Rattle.std.specs.Fn.{Called}
 use Rattle.std.specs.declared.cmp.Ordering.TheVariants.{Less, Greater}
@@ -25,9 +25,9 @@ loop-low-preserved-in-Less g c =
       narrowed = λ f computes.
           let before = old.narrowed f computes in
           let now = computed f before.0 c.predicate.ensures in
-          let there : answer_at (map f vs) (c.loop-low.low + (c.loop-low.high - c.loop-low.low) / 2) ≡ Less =
-          answer_of f vs _ c.at.result c.at.ensures now.1 ∙ c.in-Less.is in
-          (now.0, λ rises. narrowed_less (map f vs) _ _ _ _ refl rises (before.1 rises) (rw length-map (omega arith)) there);
+          let m = c.loop-low.low + (c.loop-low.high - c.loop-low.low) / 2 in
+          let there : answer_at (map f vs) m ≡ Less = answer_of f vs _ c.at.result c.at.ensures now.1 ∙ c.in-Less.is in
+          (now.0, λ rises. narrowed_less (map f vs) _ _ m (m + 1) (omega arith) rises (before.1 rises) (rw length-map (omega arith)) there);
     }
 
 pub returns-in-Equal-clause-equal : goal.returns-in-Equal-clause-equal

@@ -26,7 +26,8 @@ loop-low-preserved-in-Less g c =
           let before = old.narrowed f computes in
           let now = answered f before.0 c.predicate.ensures in
           let left = left_less f (g.C.IndexedList.list c.args.list.now) c.args.range.start c.args.range.end low high (low + (high - low) / 2) old.low
-          (omega arith) old.high c.requires.inside (omega arith) (c.as_bytes.ensures.same ∙ c.element_at-element.ensures) (sym c.in-Less.is ∙ now.1) in
+          (omega arith) old.high c.requires.inside (omega arith) (c.as_bytes.ensures.same ∙ c.element_at-element.ensures) (low + (high - low) / 2 + 1)
+          (omega arith) (omega arith) (omega arith) (omega arith) (sym c.in-Less.is ∙ now.1) in
           (now.0, λ rises. left.narrowed rises (before.1 rises));
     }
 
