@@ -1,10 +1,7 @@
 pub mod Bounds
 pub mod Ends
-pub mod FiniteMap
 pub mod Flat
-pub mod Kept
 pub mod Numbers
-pub mod OnlyImage
 pub mod Parsed
 pub mod Picked
 pub mod Places
@@ -12,5 +9,5 @@ pub mod Room
 pub mod RowIters
 pub mod Seen
 pub mod Splices
-pub mod Standing
+pub mod Unframed
 pub mod Well

@@ -18,17 +18,17 @@ use Rattle.zv_map2d.specs.Fits.{fits_texts, texts_rule}
 use Rattle.zv_map2d.specs.Keys.{Bytes}
 use Rattle.zv_map2d.specs.Rows.{Rows, firsts, seconds, values, IsFlat, IsWell, del, before, row, row_at}
 use Rattle.zv_map2d.specs.Image.{by_bytes, AreTexts, Stands, canon}
-use Rattle.zv_map2d.specs.Laws.{CanonAgain, DelCodable, DelKeeps, EmptyStands, FitsAlike, IsCodable, PutCodable, PutKeeps, SameCanon}
+use Rattle.zv_map2d_laws.specs.Laws.{CanonAgain, DelCodable, DelKeeps, EmptyStands, FitsAlike, IsCodable, PutCodable, PutKeeps, SameCanon}
 use Rattle.zv_map2d.specs.Places.{IsPlace, del_at, fits_at, put_at}
 use Rattle.zv_map2d.specs.declared.place.Place.{Place}
 use Rattle.zv_map2d.specs.declared.place.Place.TheVariants.{Pair, InRow, NewRow}
 use Rattle.zv_map2d.proofs.Splices.{row_added, row_removed, pair_added, pair_removed, start_within, value_set}
-use Rattle.zv_map2d.proofs.FiniteMap.{keys_rows, rows_keys}
+use Rattle.zv_map2d_laws.proofs.FiniteMap.{keys_rows, rows_keys}
 use Rattle.zv_map2d.proofs.Flat.{pair_within, place_within}
 use Rattle.zv_map2d.proofs.Places.{del_is, fits_by_is, fits_is, place_of, put_is}
 use Rattle.zv_map2d.proofs.Seen.{own}
-use Rattle.zv_map2d.proofs.Standing.{none_from_stands, one_map, canon_stands}
-use Rattle.zv_map2d.proofs.OnlyImage.{one_image}
+use Rattle.zv_map2d_laws.proofs.Standing.{none_from_stands, one_map, canon_stands}
+use Rattle.zv_map2d_laws.proofs.OnlyImage.{one_image}
 use Rattle.zv_map2d.proofs.Well.{put_well, del_well, row_holds}
 
 -- ---- which lists a change leaves
