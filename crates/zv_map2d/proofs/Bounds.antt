@@ -1,11 +1,6 @@
 -- How many comparisons one search after another makes.
-use Rattle.std.proofs.Common.{ℕ, ◌-◌, ◌≤◌, [], length, arith}
-use Rattle.std.specs.Cmp.{IsTotalOrder}
-use Rattle.zv_map.specs.Maps.{IsAt}
-use Rattle.zv_ule.specs.Search.{AtMostDigits, compared}
+use Rattle.zv_map2d.proofs.Common.{ℕ, ◌-◌, ◌≤◌, [], length, arith, IsTotalOrder, IsAt, AtMostDigits, compared, Bytes, Order, Rows, firsts, row, row_at}
 use Rattle.zv_map2d.specs.Bounds.{AtMostDigitsOf}
-use Rattle.zv_map2d.specs.Keys.{Bytes, Order}
-use Rattle.zv_map2d.specs.Rows.{Rows, firsts, row, row_at}
 use Rattle.zv_map2d.proofs.Places.{row_is}
 
 -- where two searches are made

@@ -1,26 +1,16 @@
 -- The end of a map, and maps that are made of pairs.
-use Rattle.std.proofs.Common.{◌≡◌, ◌⊎◌, ℕ, suc, ◌+◌, ◌-◌, ◌<◌, ◌≤◌, ◌&&◌, true, false, List, [], ◌∷◌, length, drop, get_or, Option, Some, None, Ok, Err}
-use Rattle.std.proofs.Common.{Result, IfErr, IfSome, is_some, is_none, inl, inr, refl, sym, ◌∙◌, ap, subst, arith}
-use Rattle.std.proofs.lemmas.List.{drop_more, length-map}
-use Rattle.std.specs.Cmp.{IsTotalOrder}
-use Rattle.std.specs.List.Sorted.{IsStrictlySortedBy}
+use Rattle.zv_map2d.proofs.Common.{◌≡◌, ◌⊎◌, ℕ, suc, ◌+◌, ◌-◌, ◌<◌, ◌≤◌, ◌&&◌, true, false, List, [], ◌∷◌, length, drop, get_or, Option, Some, None, Ok, Err}
+use Rattle.zv_map2d.proofs.Common.{Result, IfErr, is_some, is_none, inl, inr, refl, sym, ◌∙◌, ap, subst, arith, drop_more, length-map, IsTotalOrder}
+use Rattle.zv_map2d.proofs.Common.{IsStrictlySortedBy, Ordering, Less, Equal, Greater, placed, IsAt, keys_of, IsGap, answer_at, compared, Triple, first_refusal}
+use Rattle.zv_map2d.proofs.Common.{is_above_key, put_all, written, Rule, fits, Bytes, Order, nth, IsPlace, Rows, IsWell, find, firsts, put, row_at, InRow}
+use Rattle.zv_map2d.proofs.Common.{NewRow}
+use Rattle.std.proofs.Common.{IfSome}
 use Rattle.std.specs.Ordering.{is_gt, ordering_index, ordering_reverse}
-use Rattle.std.specs.declared.cmp.Ordering.{Ordering}
-use Rattle.std.specs.declared.cmp.Ordering.TheVariants.{Less, Equal, Greater}
 use Rattle.zv_map.proofs.Ascents.{compared_at, sorted_rises}
-use Rattle.zv_map.proofs.Places.{placed}
-use Rattle.zv_map.specs.Maps.{IsAt, keys_of}
-use Rattle.zv_ule.specs.Search.{IsGap, answer_at, compared}
-use Rattle.zv_map2d.specs.Appending.{Triple, first_refusal, is_above_key, put_all, written}
-use Rattle.zv_map2d.specs.Fits.{Rule, fits}
-use Rattle.zv_map2d.specs.Keys.{Bytes, Order, nth}
-use Rattle.zv_map2d.specs.Places.{IsPlace}
 use Rattle.zv_map2d.specs.Refusals.{IsRefusal, is_full}
-use Rattle.zv_map2d.specs.Rows.{Rows, IsWell, find, firsts, put, row_at}
 use Rattle.zv_map2d.specs.declared.error.Map2dError.{Map2dError}
 use Rattle.zv_map2d.specs.declared.error.Map2dError.TheVariants.{TooLarge, TooMany, Memory}
 use Rattle.zv_map2d.specs.declared.place.Place.{Place}
-use Rattle.zv_map2d.specs.declared.place.Place.TheVariants.{InRow, NewRow}
 use Rattle.zv_map2d.proofs.Flat.{row_well}
 
 index_less : (r : Ordering) → ordering_index r ≤ 0 → r ≡ Less

@@ -1,16 +1,12 @@
 -- A map in two levels as four lists: which map they stand for, and where a row stands in them.
-use Rattle.std.proofs.Common.{◌≡◌, ℕ, zero, suc, ◌+◌, ◌-◌, ◌<◌, ◌≤◌, List, [], ◌∷◌, ◌++◌, length, get_or, take, drop, map, Some, refl, sym, ◌∙◌, ap}
-use Rattle.std.proofs.Common.{arith, length-append}
+use Rattle.zv_map2d.proofs.Common.{◌≡◌, ℕ, zero, suc, ◌+◌, ◌-◌, ◌<◌, ◌≤◌, List, [], ◌∷◌, ◌++◌, length, get_or, take, drop, map, Some, refl, sym, ◌∙◌, ap, arith}
+use Rattle.zv_map2d.proofs.Common.{length-append, drop-drop, drop_at, length-map, map-append, map-id, take-append-drop, take_at, slice_get-get_or, flat_map}
+use Rattle.zv_map2d.proofs.Common.{slice_get, AllByRecursion, Ordering, values_of, pieces, Bytes, nth, Rows, firsts, seconds, values, ends_from, ends, rows_of}
+use Rattle.zv_map2d.proofs.Common.{IsFlat, IsRow, before, row_at, size}
 use Rattle.std.proofs.Math.Seq.{split_at}
 use Rattle.std.proofs.lemmas.List.Concat.{flat_map-append, get_or-flat_map}
-use Rattle.std.proofs.lemmas.List.{drop-drop, drop_at, get_or-map, length-map, map-append, map-id, take-append-drop, take_at}
-use Rattle.std.proofs.lemmas.Option.{slice_get-get_or}
-use Rattle.std.specs.List.{flat_map, zip, slice_range, slice_get, AllByRecursion}
-use Rattle.std.specs.declared.cmp.Ordering.{Ordering}
-use Rattle.zv_map.specs.Maps.{values_of}
-use Rattle.zv_var.specs.Format.{pieces}
-use Rattle.zv_map2d.specs.Keys.{Bytes, nth}
-use Rattle.zv_map2d.specs.Rows.{Rows, firsts, seconds, values, ends_from, ends, rows_of, IsFlat, IsRow, before, row_at, size}
+use Rattle.std.proofs.lemmas.List.{get_or-map}
+use Rattle.std.specs.List.{zip, slice_range}
 
 pub zip_parts : {K X : Type 0} (r : List (K × X)) → zip (map (λ p. p.0) r) (map (λ p. p.1) r) ≡ r
 zip_parts [] = refl

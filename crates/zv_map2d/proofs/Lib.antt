@@ -1,4 +1,5 @@
 pub mod Bounds
+pub mod Common
 pub mod Ends
 pub mod Flat
 pub mod Numbers

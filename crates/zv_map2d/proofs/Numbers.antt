@@ -1,13 +1,10 @@
 -- A joiner as a list of numbers of four bytes.
-use Rattle.std.proofs.Common.{◌≡◌, ℕ, ◌<◌, ◌^◌, List, None, refl, ap, arith, subst}
-use Rattle.std.specs.List.{flat_map}
+use Rattle.zv_map2d.proofs.Common.{◌≡◌, ℕ, ◌<◌, ◌^◌, List, None, refl, ap, arith, subst, flat_map, IsBytes, le, joiner_fault, numbers}
 use Rattle.std.specs.Int.{w32, to_le_bytes, from_le_bytes}
-use Rattle.zv_ule.specs.Bytes.{IsBytes, le}
 use Rattle.zv_ule.specs.Fixed.{IsSpelling}
 use Rattle.zv_ule.specs.laws.Twins.{u32_twin}
 use Rattle.zv_ule.specs.declared.error.TyName.TheVariants.{RawBytes4}
 use Rattle.zv_ule.proofs.Lists.{read_list}
-use Rattle.zv_map2d.specs.Causes.{joiner_fault, numbers}
 
 -- what is read of four bytes, and what a number is written as
 abbrev pub IsWritten : (ℕ → List ℕ) → Type 0

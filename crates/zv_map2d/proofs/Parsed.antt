@@ -1,22 +1,15 @@
 -- Four lists that pass the checks of a parse are those of a map.
-use Rattle.std.proofs.Common.{◌≡◌, ℕ, ◌+◌, ◌-◌, ◌<◌, ◌≤◌, true, List, [], ◌∷◌, ◌++◌, length, take, drop, slice_range, Some}
-use Rattle.std.proofs.Common.{None, refl, sym, ◌∙◌, ap, subst, arith, length-drop, length-take-le}
+use Rattle.zv_map2d.proofs.Common.{◌≡◌, ℕ, ◌+◌, ◌-◌, ◌<◌, ◌≤◌, true, List, [], ◌∷◌, ◌++◌, length, take, drop, Some, None, refl, sym, ◌∙◌, ap, subst, arith}
+use Rattle.zv_map2d.proofs.Common.{length-drop, drop-map, drop_all, length-map, take-map, same_Some, IsTotalOrder, list_all, AllByRecursion, flat_map}
+use Rattle.zv_map2d.proofs.Common.{IsStrictlySortedBy, Ordering, keys_of, values_of, last_ascending, Lists, keys_ascend, lists_fault, pieces, Bytes, ascends}
+use Rattle.zv_map2d.proofs.Common.{Rows, IsFlat, IsRow, IsWell, ends_from, firsts, rows_of}
+use Rattle.std.proofs.Common.{slice_range, length-take-le}
 use Rattle.std.proofs.lemmas.Bool.{and_parts}
 use Rattle.std.proofs.lemmas.Bool.Decides.{nat_tests}
-use Rattle.std.proofs.lemmas.List.{drop-map, drop_all, length-map, take-map}
 use Rattle.std.proofs.lemmas.List.Folds.{drop_split}
-use Rattle.std.proofs.lemmas.Option.{same_Some}
 use Rattle.std.proofs.lemmas.Slice.Zip.{firsts-zip, seconds-zip}
-use Rattle.std.specs.Cmp.{IsTotalOrder}
-use Rattle.std.specs.List.{list_all, AllByRecursion, flat_map, zip}
-use Rattle.std.specs.List.Sorted.{IsStrictlySortedBy}
-use Rattle.std.specs.declared.cmp.Ordering.{Ordering}
+use Rattle.std.specs.List.{zip}
 use Rattle.zv_map.proofs.Ascents.{sorted_from_ascends}
-use Rattle.zv_map.specs.Maps.{keys_of, values_of}
-use Rattle.zv_map2d.specs.Causes.{last_ascending, Lists, keys_ascend, lists_fault}
-use Rattle.zv_var.specs.Format.{pieces}
-use Rattle.zv_map2d.specs.Keys.{Bytes, ascends}
-use Rattle.zv_map2d.specs.Rows.{Rows, IsFlat, IsRow, IsWell, ends_from, firsts, rows_of}
 use Rattle.zv_map2d.proofs.Flat.{pick_is}
 
 -- ---- numbers that ascend

@@ -1,17 +1,11 @@
 -- What a search by a predicate found, at its place.
-use Rattle.std.proofs.Common.{◌≡◌, ℕ, ◌-◌, ◌<◌, List, [], ◌∷◌, length, map, take, drop, slice_range, Option, Some, None}
-use Rattle.std.proofs.Common.{Ok, Err, IfSome, option_map, sym, ◌∙◌, ap, subst, arith, inl, inr}
+use Rattle.zv_map2d.proofs.Common.{◌≡◌, ℕ, ◌-◌, ◌<◌, List, [], ◌∷◌, length, map, take, drop, Option, Some, None, Ok, Err, option_map, sym, ◌∙◌, ap, subst}
+use Rattle.zv_map2d.proofs.Common.{arith, inl, inr, drop-map, length-map, take-map, slice_get-get_or, slice_get, Ordering, Equal, keys_of, values_of}
+use Rattle.zv_map2d.proofs.Common.{ComesToEqual, Found, IsGap, IsHit, answer_at, Bytes, nth, FoundBy, IsPicked}
+use Rattle.std.proofs.Common.{slice_range, IfSome}
 use Rattle.std.proofs.lemmas.Bool.{cases_lt}
-use Rattle.std.proofs.lemmas.List.{drop-map, get_or-map, length-map, take-map}
-use Rattle.std.proofs.lemmas.Option.{slice_get-get_or}
+use Rattle.std.proofs.lemmas.List.{get_or-map}
 use Rattle.std.specs.Fn.{Mut}
-use Rattle.std.specs.List.{slice_get}
-use Rattle.std.specs.declared.cmp.Ordering.{Ordering}
-use Rattle.std.specs.declared.cmp.Ordering.TheVariants.{Equal}
-use Rattle.zv_map.specs.Maps.{keys_of, values_of}
-use Rattle.zv_ule.specs.Search.{ComesToEqual, Found, IsGap, IsHit, answer_at}
-use Rattle.zv_map2d.specs.Keys.{Bytes, nth}
-use Rattle.zv_map2d.specs.Predicates.{FoundBy, IsPicked}
 use denote.Ref.{Bor}
 
 -- the answers of a range

@@ -1,28 +1,18 @@
 -- What is found and changed in a map in two levels, at the place of a pair of keys.
-use Rattle.std.proofs.Common.{◌≡◌, ℕ, zero, suc, ◌+◌, ◌<◌, ◌==◌, ◌&&◌, Bool, true, false, List, [], ◌∷◌, length, Option, Some, None}
-use Rattle.std.proofs.Common.{is_none, is_some, Result, refl, sym}
-use Rattle.std.proofs.Common.{◌∙◌, ap, arith}
+use Rattle.zv_map2d.proofs.Common.{◌≡◌, ℕ, zero, suc, ◌+◌, ◌<◌, ◌==◌, ◌&&◌, Bool, true, false, List, [], ◌∷◌, length, Option, Some, None, is_none, is_some}
+use Rattle.zv_map2d.proofs.Common.{Result, refl, sym, ◌∙◌, ap, arith, set_split, length-map, slice_get-get_or, IsTotalOrder, remove, slice_get, at_within}
+use Rattle.zv_map2d.proofs.Common.{by_place, look_up_at, look_up_gap, rank_at, insert_entry_at, insert_entry_gap, without_key_at, without_key_gap, IsAt}
+use Rattle.zv_map2d.proofs.Common.{keys_of, values_of, look_up, insert_entry, without_key, rank, set_value_at, compared, IsGap, Rule, fits, fits_by, if_found}
+use Rattle.zv_map2d.proofs.Common.{place, Bytes, Order, IsPlace, del_at, find_at, fits_at, is_pair, put_at, Rows, IsWell, before, del, find, firsts, put, row}
+use Rattle.zv_map2d.proofs.Common.{row_at, values, with_row, Map2d, Pair, InRow, NewRow}
 use Rattle.std.proofs.lemmas.Bool.Decides.{nat_tests}
-use Rattle.std.proofs.lemmas.List.{set_split, length-map}
 use Rattle.std.proofs.lemmas.List.Edits.{length-remove}
-use Rattle.std.proofs.lemmas.Option.{slice_get-get_or}
-use Rattle.std.specs.Cmp.{IsTotalOrder}
-use Rattle.std.specs.List.{remove, slice_get}
 use Rattle.std.specs.Option.{unwrap_or}
 use Rattle.std.specs.Prelude.{cond}
-use Rattle.zv_map.proofs.Places.{at_within, by_place, look_up_at, look_up_gap, rank_at, insert_entry_at, insert_entry_gap, without_key_at, without_key_gap}
-use Rattle.zv_map.specs.Maps.{IsAt, keys_of, values_of, look_up, insert_entry, without_key, rank, set_value_at}
-use Rattle.zv_ule.specs.Search.{compared, IsGap}
-use Rattle.zv_map2d.specs.Fits.{Rule, fits, fits_by, if_found, place}
-use Rattle.zv_map2d.specs.Keys.{Bytes, Order}
 use Rattle.zv_map2d.specs.Outcomes.{Inserts, Puts}
 use Rattle.zv_map2d.specs.Refusals.{is_full}
-use Rattle.zv_map2d.specs.Places.{IsPlace, del_at, find_at, fits_at, is_pair, put_at}
-use Rattle.zv_map2d.specs.Rows.{Rows, IsWell, before, del, find, firsts, put, row, row_at, values, with_row}
-use Rattle.zv_map2d.specs.Views.{Map2d}
 use Rattle.zv_map2d.specs.declared.error.Map2dError.{Map2dError}
 use Rattle.zv_map2d.specs.declared.place.Place.{Place}
-use Rattle.zv_map2d.specs.declared.place.Place.TheVariants.{Pair, InRow, NewRow}
 use Rattle.zv_map2d.proofs.Flat.{get_pair, pair_within, row_split, row_well}
 
 -- what the place of a pair that is there is within

@@ -1,8 +1,6 @@
 -- The room that changes need, and what they leave of it.
-use Rattle.std.proofs.Common.{◌≡◌, ℕ, ◌+◌, ◌*◌, ◌≤◌, length, refl, subst, arith}
-use Rattle.zv_map2d.specs.Room.{HasRoomFor, IsOwned, IsSameMap, Spends, SpendsFor}
-use Rattle.zv_map2d.specs.Rows.{Rows, seconds}
-use Rattle.zv_map2d.specs.Views.{IsCopy, Map2d, Vector}
+use Rattle.zv_map2d.proofs.Common.{◌≡◌, ℕ, ◌+◌, ◌*◌, ◌≤◌, length, refl, subst, arith, HasRoomFor, IsOwned, IsSameMap, Spends, SpendsFor, Rows, seconds, IsCopy}
+use Rattle.zv_map2d.proofs.Common.{Map2d, Vector}
 
 pub same_map : (m : Map2d) → IsSameMap m m
 same_map m = record { rows = refl; parts = refl; keys0 = omega arith; joiner = omega arith; keys1 = omega arith; values = omega arith }

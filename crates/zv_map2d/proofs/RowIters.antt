@@ -1,11 +1,9 @@
 -- The rows of a map, one after another.
-use Rattle.std.proofs.Common.{◌≡◌, ℕ, suc, ◌+◌, ◌-◌, ◌<◌, List, [], ◌∷◌, ◌++◌, length, map, sym, ◌∙◌, ap, arith}
-use Rattle.std.proofs.lemmas.List.{ext_get_or, get_or-map, length-map}
+use Rattle.zv_map2d.proofs.Common.{◌≡◌, ℕ, suc, ◌+◌, ◌-◌, ◌<◌, List, [], ◌∷◌, ◌++◌, length, map, sym, ◌∙◌, ap, arith, ext_get_or, length-map, Bytes, Rows, Row}
+use Rattle.zv_map2d.proofs.Common.{row_seen, rows_seen}
+use Rattle.std.proofs.lemmas.List.{get_or-map}
 use Rattle.std.proofs.lemmas.List.FromFn.{get_or-map-range_with_len, length-map-range_with_len, map-range_with_len_more}
 use Rattle.zv_map2d.proofs.Flat.{row_is}
-use Rattle.zv_map2d.specs.Keys.{Bytes}
-use Rattle.zv_map2d.specs.Rows.{Rows}
-use Rattle.zv_map2d.specs.Views.{Row, row_seen, rows_seen}
 
 module _ (m : Rows) where
   -- a row and the others

@@ -1,20 +1,11 @@
 -- What the four lists of a map have.
-use Rattle.std.proofs.Common.{◌≡◌, ◌⊎◌, inl, inr, ℕ, suc, ◌+◌, ◌-◌, ◌<◌, ◌≤◌, Bool, List, [], length, get_or, slice_index, slice_range, take, zip}
-use Rattle.std.proofs.Common.{Result, refl, sym, ◌∙◌, ap, subst, arith, zero-add, ◌∷◌, drop, length-append, length-drop, length-take}
-use Rattle.std.proofs.lemmas.List.{length-map, take-append-drop, take-take, take_all}
-use Rattle.std.proofs.lemmas.Option.{slice_get-get_or}
-use Rattle.std.proofs.Common.{Some}
-use Rattle.std.specs.Cmp.{IsTotalOrder}
-use Rattle.std.specs.List.{AllByRecursion, flat_map, insert, remove, slice_get}
+use Rattle.zv_map2d.proofs.Common.{◌≡◌, ◌⊎◌, inl, inr, ℕ, suc, ◌+◌, ◌-◌, ◌<◌, ◌≤◌, Bool, List, [], length, get_or, slice_index, take, Result, refl, sym, ◌∙◌}
+use Rattle.zv_map2d.proofs.Common.{ap, subst, arith, zero-add, ◌∷◌, drop, length-append, length-drop, length-take, Some, length-map, take-append-drop}
+use Rattle.zv_map2d.proofs.Common.{take-take, take_all, slice_get-get_or, IsTotalOrder, AllByRecursion, flat_map, insert, remove, slice_get, Ordering}
+use Rattle.zv_map2d.proofs.Common.{compared_range, placed, IsAt, IsMap, keys_of, values_of, compared, Found, IsGap, last_key, Bytes, Order, nth, Rows, firsts}
+use Rattle.zv_map2d.proofs.Common.{seconds, values, ends, IsFlat, IsRow, IsWell, before, row_at, rows_of, AreColumns, Map2d, Row, Vector, row_seen}
+use Rattle.std.proofs.Common.{slice_range, zip}
 use Rattle.std.specs.Result.{MatchResult}
-use Rattle.std.specs.declared.cmp.Ordering.{Ordering}
-use Rattle.zv_map.proofs.Places.{compared_range, placed}
-use Rattle.zv_map.specs.Maps.{IsAt, IsMap, keys_of, values_of}
-use Rattle.zv_ule.specs.Search.{compared, Found, IsGap}
-use Rattle.zv_map2d.specs.Appending.{last_key}
-use Rattle.zv_map2d.specs.Keys.{Bytes, Order, nth}
-use Rattle.zv_map2d.specs.Rows.{Rows, firsts, seconds, values, ends, IsFlat, IsRow, IsWell, before, row_at, rows_of}
-use Rattle.zv_map2d.specs.Views.{AreColumns, Map2d, Row, Vector, row_seen}
 use Rattle.zv_map2d.proofs.Flat.{before_suc, before_within, end_at, get_pair, length_ends, length_pick, nth_pair, row_range, row_well, values_as_many, view_of}
 use Rattle.zv_map2d.proofs.Flat.{zip_parts}
 

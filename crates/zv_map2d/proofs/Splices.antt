@@ -1,17 +1,14 @@
 -- What a change of some rows, or of one row's pairs, does to the four lists of a map. Each change is a splice: none or one element stands in place
 -- of none or one.
-use Rattle.std.proofs.Common.{◌≡◌, ℕ, zero, suc, ◌+◌, ◌-◌, ◌<◌, ◌≤◌, List, [], ◌∷◌, ◌++◌, length, get_or, set, take, drop, map, refl, sym, ◌∙◌, ap}
-use Rattle.std.proofs.Common.{arith, length-append, zero-add, add-suc}
+use Rattle.zv_map2d.proofs.Common.{◌≡◌, ℕ, zero, suc, ◌+◌, ◌-◌, ◌<◌, ◌≤◌, List, [], ◌∷◌, ◌++◌, length, get_or, set, take, drop, map, refl, sym, ◌∙◌, ap, arith}
+use Rattle.zv_map2d.proofs.Common.{length-append, zero-add, add-suc, map-append, map-id, take-map, drop-map, take-append-drop, take-append-le, drop-append-le}
+use Rattle.zv_map2d.proofs.Common.{take_at, drop_at, length-set, set_split, length-map, flat_map, insert, remove, splice, keys_of, values_of, set_value_at}
+use Rattle.zv_map2d.proofs.Common.{Bytes, nth, Rows, ends_from, IsFlat, before, row_at, shift_from}
 use Rattle.std.proofs.Math.Seq.{map-set_same, take-append-add, drop-append-add}
 use Rattle.std.proofs.Math.ListN.{get_or-map}
 use Rattle.std.proofs.lemmas.List.Concat.{flat_map-append}
 use Rattle.std.proofs.lemmas.List.Edits.{length-insert, length-remove}
-use Rattle.std.proofs.lemmas.List.{append_assoc, map-append, map-id, take-map, drop-map, take-append-drop, take-append-le, drop-append-le, take_at, drop_at}
-use Rattle.std.proofs.lemmas.List.{length-set, set_split, length-map}
-use Rattle.std.specs.List.{flat_map, insert, remove, splice}
-use Rattle.zv_map.specs.Maps.{keys_of, values_of, set_value_at}
-use Rattle.zv_map2d.specs.Keys.{Bytes, nth}
-use Rattle.zv_map2d.specs.Rows.{Rows, ends_from, IsFlat, before, row_at, shift_from}
+use Rattle.std.proofs.lemmas.List.{append_assoc}
 use Rattle.zv_map2d.proofs.Flat.{pick, length_pick, before_suc, before_within, pair_within}
 
 -- ---- splices

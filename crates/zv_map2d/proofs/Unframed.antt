@@ -1,25 +1,20 @@
 -- Images: from the bytes to the parts, and to the map that they stand for.
-use Rattle.std.proofs.Common.{◌≡◌, ℕ, ◌≤◌, List, ◌++◌, length, take, drop, Option, Some, None, sym, ◌∙◌, ap, subst, arith, append_assoc, Result, Ok, Err}
+use Rattle.zv_map2d.proofs.Common.{◌≡◌, ℕ, ◌≤◌, List, ◌++◌, length, take, drop, Option, Some, None, sym, ◌∙◌, ap, subst, arith, Result, Ok, Err, append-nil}
+use Rattle.zv_map2d.proofs.Common.{nil_from_length, take-append-drop, option_and_then_some, flat_map, IsBytes, le, number, elements, list_fault, Part}
+use Rattle.zv_map2d.proofs.Common.{joiner_fault, lists_fault, lists_read, read_fault, rows_read, Bytes, ends, Map2d, parts_of}
+use Rattle.std.proofs.Common.{append_assoc}
 use Rattle.std.proofs.lemmas.Cmp.{nat_list_cmp_total as total}
-use Rattle.std.proofs.lemmas.List.{append-nil, length-take-le, nil_from_length, take-append-drop}
-use Rattle.std.proofs.lemmas.Option.{option_and_then_some}
-use Rattle.std.specs.List.{flat_map}
+use Rattle.std.proofs.lemmas.List.{length-take-le}
 use Rattle.std.specs.Result.{result_err, IfOk}
 use Rattle.zv_ule.proofs.Fields.{le-number_at}
 use Rattle.zv_ule.proofs.Lists.{front_bytes, back_bytes}
-use Rattle.zv_ule.specs.Bytes.{IsBytes, le, number}
 use Rattle.zv_ule.specs.Kinds.{text_fault}
 use Rattle.zv_ule.specs.declared.error.UleError.{UleError}
 use Rattle.zv_var.proofs.Read.{Part_from_fault, valid_from_fault}
-use Rattle.zv_var.specs.Format.{elements, list_fault, Part}
 use Rattle.zv_var.specs.Frame.{framed, first_part}
 use Rattle.zv_var.specs.Laws.{AreValid}
-use Rattle.zv_map2d.specs.Causes.{joiner_fault, lists_fault, lists_read, read_fault, rows_read}
 use Rattle.zv_map2d.specs.Frame.{Parts, frame, unframe}
 use Rattle.zv_map2d.specs.Image.{by_bytes, bytes_fault, texts_to_bytes, var_list, Stands, fault}
-use Rattle.zv_map2d.specs.Keys.{Bytes}
-use Rattle.zv_map2d.specs.Rows.{ends}
-use Rattle.zv_map2d.specs.Views.{Map2d, parts_of}
 use Rattle.zv_map2d.specs.declared.error.EditError.{EditError}
 use Rattle.zv_map2d.proofs.Numbers.{joiner_written}
 use Rattle.zv_map2d.proofs.Parsed.{held_lists}

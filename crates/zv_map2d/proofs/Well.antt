@@ -1,21 +1,13 @@
 -- Changes keep a map well formed.
-use Rattle.std.proofs.Common.{◌≡◌, ◌<◌, List, [], ◌∷◌, length, Option, Some, None, Result, Ok, Err, OnOk, OnErr, sym, subst, arith}
+use Rattle.zv_map2d.proofs.Common.{◌≡◌, ◌<◌, List, [], ◌∷◌, length, Option, Some, None, Result, Ok, Err, OnOk, OnErr, sym, subst, arith, IsTotalOrder}
+use Rattle.zv_map2d.proofs.Common.{AllByRecursion, Ordering, Less, Equal, Greater, IsMap-insert_entry, IsMap-without_key, values_with, values_without, IsMap}
+use Rattle.zv_map2d.proofs.Common.{values_of, look_up, insert_entry, Bytes, Order, IsSameMap, Rows, IsWell, row, put, with_row, del, Map2d}
 use Rattle.std.proofs.lemmas.List.Elements.{All-from_recursion}
 use Rattle.std.proofs.lemmas.Map.Views.{IfSome-lookup_from_All}
 use Rattle.std.specs.BTreeMap.{is_at}
-use Rattle.std.specs.Cmp.{IsTotalOrder}
-use Rattle.std.specs.List.{AllByRecursion}
 use Rattle.std.specs.List.Sorted.{IsStrictlySortedBy}
 use Rattle.std.specs.Option.{IfSome, unwrap_or}
 use Rattle.std.specs.Ordering.{match_ordering}
-use Rattle.std.specs.declared.cmp.Ordering.{Ordering}
-use Rattle.std.specs.declared.cmp.Ordering.TheVariants.{Less, Equal, Greater}
-use Rattle.zv_map.proofs.Places.{IsMap-insert_entry, IsMap-without_key, values_with, values_without}
-use Rattle.zv_map.specs.Maps.{IsMap, values_of, look_up, insert_entry}
-use Rattle.zv_map2d.specs.Keys.{Bytes, Order}
-use Rattle.zv_map2d.specs.Room.{IsSameMap}
-use Rattle.zv_map2d.specs.Rows.{Rows, IsWell, row, put, with_row, del}
-use Rattle.zv_map2d.specs.Views.{Map2d}
 
 module _ {X : Type 0} (Q : X → Type 0) where
   -- what holds of what each entry has holds of the values, and back

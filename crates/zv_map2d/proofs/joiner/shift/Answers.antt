@@ -1,4 +1,4 @@
-use Rattle.std.proofs.Common.{arith}
+use Rattle.zv_map2d.proofs.Common.{arith}
 use Rattle.zv_map2d.proofs.Splices.{shifted}
 use Rattle.zv_map2d.proofs.joiner.shift.Goals as goal
 

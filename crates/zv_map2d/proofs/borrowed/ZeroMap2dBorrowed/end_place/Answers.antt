@@ -1,5 +1,4 @@
-use Rattle.std.proofs.Common.{arith, rules}
-use Rattle.zv_map2d.specs.Borrowed.{rows_in}
+use Rattle.zv_map2d.proofs.Common.{arith, rules, rows_in}
 use Rattle.zv_map2d.proofs.Ends.{new_row_at_end, some_at_end}
 use Rattle.zv_map2d.proofs.borrowed.ZeroMap2dBorrowed.end_place.Goals as goal
 

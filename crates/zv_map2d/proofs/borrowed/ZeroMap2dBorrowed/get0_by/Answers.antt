@@ -1,7 +1,4 @@
-use Rattle.std.proofs.Common.{List, Ok, Err, map, subst}
-use Rattle.zv_ule.specs.Search.{ComesToEqual, Found}
-use Rattle.zv_map2d.specs.Borrowed.{rows_in}
-use Rattle.zv_map2d.specs.Keys.{Bytes, nth}
+use Rattle.zv_map2d.proofs.Common.{List, Ok, Err, map, subst, ComesToEqual, Found, rows_in, Bytes, nth}
 use Rattle.zv_map2d.proofs.Picked.{none_by, one_by, picked}
 use Rattle.zv_map2d.proofs.Seen.{row_seen_is}
 use Rattle.zv_map2d.proofs.borrowed.ZeroMap2dBorrowed.get0_by.Goals as goal

@@ -1,7 +1,4 @@
-use Rattle.std.proofs.Common.{[], Some, sym, ◌∙◌, ap}
-use Rattle.zv_map.proofs.Places.{at_within, entry_at, entry_gap, look_up_gap}
-use Rattle.zv_map2d.specs.Borrowed.{rows_in}
-use Rattle.zv_map2d.specs.Views.{Row}
+use Rattle.zv_map2d.proofs.Common.{[], Some, sym, ◌∙◌, ap, at_within, entry_at, entry_gap, look_up_gap, rows_in, Row}
 use Rattle.zv_map2d.proofs.Flat.{row_pair}
 use Rattle.zv_map2d.proofs.Places.{look_up_row}
 use Rattle.zv_map2d.proofs.borrowed.ZeroMap2dBorrowed.get0_counted.Goals as goal

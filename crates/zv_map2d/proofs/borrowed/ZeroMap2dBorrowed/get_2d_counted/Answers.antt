@@ -1,6 +1,4 @@
-use Rattle.std.proofs.Common.{sym, ◌∙◌}
-use Rattle.zv_map2d.specs.Borrowed.{rows_in}
-use Rattle.zv_map2d.specs.declared.place.Place.TheVariants.{InRow, NewRow}
+use Rattle.zv_map2d.proofs.Common.{sym, ◌∙◌, rows_in, InRow, NewRow}
 use Rattle.zv_map2d.proofs.Bounds.{searches_in_row}
 use Rattle.zv_map2d.proofs.Places.{find_is, find_pair}
 use Rattle.zv_map2d.proofs.borrowed.ZeroMap2dBorrowed.get_2d_counted.Goals as goal

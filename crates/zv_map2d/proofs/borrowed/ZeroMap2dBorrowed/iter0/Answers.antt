@@ -1,6 +1,4 @@
-use Rattle.std.proofs.Common.{◌≡◌, ◌-◌, ℕ, length, map, ◌∙◌, ap, arith}
-use Rattle.zv_map2d.specs.Borrowed.{rows_in}
-use Rattle.zv_map2d.specs.Views.{Row, rows_seen}
+use Rattle.zv_map2d.proofs.Common.{◌≡◌, ◌-◌, ℕ, length, map, ◌∙◌, ap, arith, rows_in, Row, rows_seen}
 use Rattle.zv_map2d.proofs.RowIters.{seen_all}
 use Rattle.zv_map2d.proofs.borrowed.ZeroMap2dBorrowed.iter0.Goals as goal
 

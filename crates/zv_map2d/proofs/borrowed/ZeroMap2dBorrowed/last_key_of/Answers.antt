@@ -1,5 +1,4 @@
-use Rattle.std.proofs.Common.{◌∙◌}
-use Rattle.zv_map2d.specs.Borrowed.{rows_in}
+use Rattle.zv_map2d.proofs.Common.{◌∙◌, rows_in}
 use Rattle.zv_map2d.proofs.Flat.{row_well}
 use Rattle.zv_map2d.proofs.Seen.{last_of_row}
 use Rattle.zv_map2d.proofs.borrowed.ZeroMap2dBorrowed.last_key_of.Goals as goal

@@ -1,4 +1,4 @@
-use Rattle.std.proofs.Common.{length, ◌∙◌, ap}
+use Rattle.zv_map2d.proofs.Common.{length, ◌∙◌, ap}
 use Rattle.zv_map2d.proofs.borrowed.ZeroMap2dBorrowed.len.Goals as goal
 
 pub returns : goal.returns

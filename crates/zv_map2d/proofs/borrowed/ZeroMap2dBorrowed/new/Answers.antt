@@ -1,5 +1,4 @@
-use Rattle.std.proofs.Common.{refl, ap}
-use Rattle.zv_map2d.specs.Causes.{numbers}
+use Rattle.zv_map2d.proofs.Common.{refl, ap, numbers}
 use Rattle.zv_map2d.proofs.Flat.{view_of}
 use Rattle.zv_map2d.proofs.Seen.{none, views}
 use Rattle.zv_map2d.proofs.Well.{none_well}

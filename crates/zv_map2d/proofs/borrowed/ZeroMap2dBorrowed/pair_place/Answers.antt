@@ -1,5 +1,4 @@
-use Rattle.std.proofs.Common.{◌-◌, refl, subst}
-use Rattle.zv_ule.specs.Search.{AtMostDigits}
+use Rattle.zv_map2d.proofs.Common.{◌-◌, refl, subst, AtMostDigits}
 use Rattle.zv_map2d.proofs.Seen.{in_range, pair_placed, row_size}
 use Rattle.zv_map2d.proofs.borrowed.ZeroMap2dBorrowed.pair_place.Goals as goal
 

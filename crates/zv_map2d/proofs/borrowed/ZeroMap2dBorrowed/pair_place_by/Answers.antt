@@ -1,9 +1,5 @@
-use Rattle.std.proofs.Common.{List, map, refl, ◌∙◌, ap, subst}
-use Rattle.std.specs.List.Sorted.{IsSearchInRange}
-use Rattle.std.specs.declared.cmp.Ordering.{Ordering}
+use Rattle.zv_map2d.proofs.Common.{List, map, refl, ◌∙◌, ap, subst, IsSearchInRange, Ordering, AnsweredEqual, Found, Bytes}
 use Rattle.zv_map.specs.Views.{list_of}
-use Rattle.zv_ule.specs.Search.{AnsweredEqual, Found}
-use Rattle.zv_map2d.specs.Keys.{Bytes}
 use Rattle.zv_map2d.proofs.Picked.{answers_range}
 use Rattle.zv_map2d.proofs.Seen.{in_range, row_range_is, row_size}
 use Rattle.zv_map2d.proofs.borrowed.ZeroMap2dBorrowed.pair_place_by.Goals as goal

@@ -1,4 +1,4 @@
-use Rattle.std.proofs.Common.{◌∙◌, arith}
+use Rattle.zv_map2d.proofs.Common.{◌∙◌, arith}
 use Rattle.zv_map2d.proofs.Seen.{row_pairs, row_within}
 use Rattle.zv_map2d.proofs.borrowed.ZeroMap2dBorrowed.pairs.Goals as goal
 

@@ -1,4 +1,4 @@
-use Rattle.std.proofs.Common.{◌∙◌, arith}
+use Rattle.zv_map2d.proofs.Common.{◌∙◌, arith}
 use Rattle.zv_map2d.proofs.Seen.{end_is, ends_count}
 use Rattle.zv_map2d.proofs.borrowed.ZeroMap2dBorrowed.row_end.Goals as goal
 

@@ -1,7 +1,5 @@
-use Rattle.std.proofs.Common.{◌⊎◌, ◌<◌, List, length, inl, inr, refl, subst, arith}
-use Rattle.std.specs.declared.cmp.Ordering.{Ordering}
+use Rattle.zv_map2d.proofs.Common.{◌⊎◌, ◌<◌, List, length, inl, inr, refl, subst, arith, Ordering, Found}
 use Rattle.zv_map.specs.Views.{list_of}
-use Rattle.zv_ule.specs.Search.{Found}
 use Rattle.zv_map2d.proofs.Seen.{all_answers, row_placed, rows_count}
 use Rattle.zv_map2d.proofs.borrowed.ZeroMap2dBorrowed.row_place.Goals as goal
 

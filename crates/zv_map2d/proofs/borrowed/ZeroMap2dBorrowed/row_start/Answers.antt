@@ -1,6 +1,4 @@
-use Rattle.std.proofs.Common.{◌≡◌, sym, ap, arith}
-use Rattle.zv_map2d.specs.Borrowed.{rows_in}
-use Rattle.zv_map2d.specs.Rows.{before}
+use Rattle.zv_map2d.proofs.Common.{◌≡◌, sym, ap, arith, rows_in, before}
 use Rattle.zv_map2d.proofs.borrowed.ZeroMap2dBorrowed.row_start.Goals as goal
 
 pub returns-in-None : goal.returns-in-None

@@ -1,4 +1,4 @@
-use Rattle.std.proofs.Common.{◌∙◌}
+use Rattle.zv_map2d.proofs.Common.{◌∙◌}
 use Rattle.zv_map2d.proofs.Seen.{rows_count}
 use Rattle.zv_map2d.proofs.borrowed.ZeroMap2dBorrowed.rows.Goals as goal
 

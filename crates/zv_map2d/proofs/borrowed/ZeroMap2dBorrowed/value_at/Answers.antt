@@ -1,5 +1,4 @@
-use Rattle.std.proofs.Common.{◌∙◌, arith}
-use Rattle.zv_map2d.specs.Borrowed.{rows_in}
+use Rattle.zv_map2d.proofs.Common.{◌∙◌, arith, rows_in}
 use Rattle.zv_map2d.proofs.Flat.{pair_within}
 use Rattle.zv_map2d.proofs.Seen.{value_is}
 use Rattle.zv_map2d.proofs.borrowed.ZeroMap2dBorrowed.value_at.Goals as goal

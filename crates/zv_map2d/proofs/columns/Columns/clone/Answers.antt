@@ -1,4 +1,4 @@
-use Rattle.std.proofs.Common.{refl}
+use Rattle.zv_map2d.proofs.Common.{refl}
 use Rattle.zv_map2d.proofs.Room.{copy_of}
 use Rattle.zv_map2d.proofs.Seen.{columns, same_lists}
 use Rattle.zv_map2d.proofs.columns.Columns.clone.Goals as goal

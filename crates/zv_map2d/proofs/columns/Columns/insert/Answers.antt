@@ -1,5 +1,4 @@
-use Rattle.zv_map2d.specs.Fits.{rule_of}
-use Rattle.zv_map2d.specs.declared.place.Place.TheVariants.{Pair}
+use Rattle.zv_map2d.proofs.Common.{rule_of, Pair}
 use Rattle.zv_map2d.proofs.Places.{new_said, nothing_there, put_said}
 use Rattle.zv_map2d.proofs.columns.Columns.insert.Goals as goal
 

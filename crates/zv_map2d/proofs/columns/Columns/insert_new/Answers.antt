@@ -1,4 +1,4 @@
-use Rattle.zv_map2d.specs.Fits.{rule_of}
+use Rattle.zv_map2d.proofs.Common.{rule_of}
 use Rattle.zv_map2d.proofs.Places.{new_said, put_said}
 use Rattle.zv_map2d.proofs.columns.Columns.insert_new.Goals as goal
 

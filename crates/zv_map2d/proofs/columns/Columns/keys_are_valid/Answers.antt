@@ -1,5 +1,4 @@
-use Rattle.std.proofs.Common.{subst}
-use Rattle.std.specs.List.{AllByRecursion}
+use Rattle.zv_map2d.proofs.Common.{subst, AllByRecursion}
 use Rattle.zv_map.specs.Keys.{IsElementOf}
 use Rattle.zv_map2d.proofs.columns.Columns.keys_are_valid.Goals as goal
 

@@ -1,4 +1,4 @@
-use Rattle.std.proofs.Common.{refl}
+use Rattle.zv_map2d.proofs.Common.{refl}
 use Rattle.zv_map2d.proofs.Seen.{in_range, pair_placed, seen}
 use Rattle.zv_map2d.proofs.columns.Columns.pair_place.Goals as goal
 

@@ -1,4 +1,4 @@
-use Rattle.std.proofs.Common.{arith}
+use Rattle.zv_map2d.proofs.Common.{arith}
 use Rattle.zv_map2d.proofs.Flat.{place_within}
 use Rattle.zv_map2d.proofs.columns.Columns.pair_start.Goals as goal
 

@@ -1,4 +1,4 @@
-use Rattle.std.proofs.Common.{sym, ◌∙◌}
+use Rattle.zv_map2d.proofs.Common.{sym, ◌∙◌}
 use Rattle.zv_map2d.proofs.Places.{put_is}
 use Rattle.zv_map2d.proofs.columns.Columns.put_fitting.Goals as goal
 

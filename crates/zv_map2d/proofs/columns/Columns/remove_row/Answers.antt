@@ -1,4 +1,4 @@
-use Rattle.std.proofs.Common.{length, ap, arith}
+use Rattle.zv_map2d.proofs.Common.{length, ap, arith}
 use Rattle.zv_map2d.proofs.Flat.{view_of}
 use Rattle.zv_map2d.proofs.Room.{spent}
 use Rattle.zv_map2d.proofs.Seen.{columns, ends_count, ends_some, few_more, no_more, pair_stands, same_lists, seen}

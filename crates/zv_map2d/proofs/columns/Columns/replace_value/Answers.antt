@@ -1,4 +1,4 @@
-use Rattle.std.proofs.Common.{refl, rules}
+use Rattle.zv_map2d.proofs.Common.{refl, rules}
 use Rattle.zv_map2d.proofs.Flat.{view_of}
 use Rattle.zv_map2d.proofs.Seen.{columns, pair_stands, same_lists, seen}
 use Rattle.zv_map2d.proofs.Splices.{value_set}

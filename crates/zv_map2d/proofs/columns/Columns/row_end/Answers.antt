@@ -1,4 +1,4 @@
-use Rattle.std.proofs.Common.{ℕ, List, length, get_or, ◌∙◌, ap, arith}
+use Rattle.zv_map2d.proofs.Common.{ℕ, List, length, get_or, ◌∙◌, ap, arith}
 use Rattle.zv_map2d.proofs.Seen.{ends_count, end_is, seen}
 use Rattle.zv_map2d.proofs.columns.Columns.row_end.Goals as goal
 

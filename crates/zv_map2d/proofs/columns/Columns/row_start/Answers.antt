@@ -1,5 +1,4 @@
-use Rattle.std.proofs.Common.{◌≡◌, sym, ap, arith}
-use Rattle.zv_map2d.specs.Rows.{before}
+use Rattle.zv_map2d.proofs.Common.{◌≡◌, sym, ap, arith, before}
 use Rattle.zv_map2d.proofs.columns.Columns.row_start.Goals as goal
 
 pub returns-in-None : goal.returns-in-None

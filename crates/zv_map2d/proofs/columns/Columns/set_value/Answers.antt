@@ -1,5 +1,4 @@
-use Rattle.std.proofs.Common.{refl, sym, subst, arith}
-use Rattle.zv_map2d.specs.Room.{IsOwned}
+use Rattle.zv_map2d.proofs.Common.{refl, sym, subst, arith, IsOwned}
 use Rattle.zv_map2d.proofs.Flat.{view_of}
 use Rattle.zv_map2d.proofs.Room.{owned_by_room, spent}
 use Rattle.zv_map2d.proofs.Seen.{columns, few_more, pair_stands, same_lists, seen}

@@ -1,5 +1,4 @@
-use Rattle.std.proofs.Common.{subst}
-use Rattle.zv_map2d.specs.Places.{IsPlace}
+use Rattle.zv_map2d.proofs.Common.{subst, IsPlace}
 use Rattle.zv_map2d.proofs.Places.{pair_there}
 use Rattle.zv_map2d.proofs.Seen.{pair_stands, seen}
 use Rattle.zv_map2d.proofs.columns.Columns.takes.Goals as goal

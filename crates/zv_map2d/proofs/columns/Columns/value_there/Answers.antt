@@ -1,4 +1,4 @@
-use Rattle.std.proofs.Common.{sym, ◌∙◌}
+use Rattle.zv_map2d.proofs.Common.{sym, ◌∙◌}
 use Rattle.zv_map2d.proofs.Places.{find_pair, pair_there}
 use Rattle.zv_map2d.proofs.Seen.{seen, value_is}
 use Rattle.zv_map2d.proofs.columns.Columns.value_there.Goals as goal

@@ -1,10 +1,6 @@
-use Rattle.std.proofs.Common.{None, IfSome, option_map, subst, arith}
-use Rattle.std.proofs.lemmas.List.{length-map}
+use Rattle.zv_map2d.proofs.Common.{None, option_map, subst, arith, length-map, rows_in, FoundBy, IsPicked, row_at, Row}
+use Rattle.std.proofs.Common.{IfSome}
 use Rattle.zv_ule.specs.Views.{element_of}
-use Rattle.zv_map2d.specs.Borrowed.{rows_in}
-use Rattle.zv_map2d.specs.Predicates.{FoundBy, IsPicked}
-use Rattle.zv_map2d.specs.Rows.{row_at}
-use Rattle.zv_map2d.specs.Views.{Row}
 use Rattle.zv_map2d.proofs.Picked.{none_by, picked_value, some_by}
 use Rattle.zv_map2d.proofs.cursor.ZeroMap2dCursor.get1_by.Goals as goal
 

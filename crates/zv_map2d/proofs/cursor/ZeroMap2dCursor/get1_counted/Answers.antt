@@ -1,7 +1,4 @@
-use Rattle.std.proofs.Common.{sym, ◌∙◌, ap}
-use Rattle.zv_map.proofs.Places.{look_up_at, look_up_gap}
-use Rattle.zv_map.specs.Maps.{look_up}
-use Rattle.zv_map2d.specs.Views.{Row}
+use Rattle.zv_map2d.proofs.Common.{sym, ◌∙◌, ap, look_up_at, look_up_gap, look_up, Row}
 use Rattle.zv_map2d.proofs.cursor.ZeroMap2dCursor.get1_counted.Goals as goal
 
 pub returns-in_default-clause-value : goal.returns-in_default-clause-value

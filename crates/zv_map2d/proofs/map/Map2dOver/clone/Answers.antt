@@ -1,5 +1,4 @@
-use Rattle.std.proofs.Common.{sym, subst}
-use Rattle.zv_map2d.specs.Rows.{IsWell}
+use Rattle.zv_map2d.proofs.Common.{sym, subst, IsWell}
 use Rattle.zv_map2d.proofs.map.Map2dOver.clone.Goals as goal
 
 pub invariant_of-result : goal.invariant_of-result

@@ -1,7 +1,5 @@
-use Rattle.std.proofs.Common.{◌≡◌, IfSome, None, is_some, subst}
-use Rattle.zv_map2d.specs.Appending.{is_above}
-use Rattle.zv_map2d.specs.Places.{IsPlace, find_at}
-use Rattle.zv_map2d.specs.Rows.{Rows}
+use Rattle.zv_map2d.proofs.Common.{◌≡◌, None, is_some, subst, is_above, IsPlace, find_at, Rows}
+use Rattle.std.proofs.Common.{IfSome}
 use Rattle.zv_map2d.proofs.map.Map2dOver.end_place.Goals as goal
 
 pub returns-clause-above : goal.returns-clause-above

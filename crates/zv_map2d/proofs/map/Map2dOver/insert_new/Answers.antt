@@ -1,4 +1,4 @@
-use Rattle.std.proofs.Common.{◌∙◌}
+use Rattle.zv_map2d.proofs.Common.{◌∙◌}
 use Rattle.zv_map2d.proofs.Places.{find_is}
 use Rattle.zv_map2d.proofs.Well.{changed_well, put_well}
 use Rattle.zv_map2d.proofs.map.Map2dOver.insert_new.Goals as goal

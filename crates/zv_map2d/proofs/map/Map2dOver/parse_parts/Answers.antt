@@ -1,4 +1,4 @@
-use Rattle.std.proofs.Common.{sym}
+use Rattle.zv_map2d.proofs.Common.{sym}
 use Rattle.zv_map2d.proofs.Parsed.{held_lists}
 use Rattle.zv_map2d.proofs.map.Map2dOver.parse_parts.Goals as goal
 

@@ -1,4 +1,4 @@
-use Rattle.std.proofs.Common.{is_some, sym, ◌∙◌, ap}
+use Rattle.zv_map2d.proofs.Common.{is_some, sym, ◌∙◌, ap}
 use Rattle.zv_map2d.proofs.Places.{find_is, pair_found}
 use Rattle.zv_map2d.proofs.map.Map2dOver.put_reserved.Goals as goal
 

@@ -1,5 +1,4 @@
-use Rattle.std.proofs.Common.{sym, ◌∙◌}
-use Rattle.zv_map2d.specs.Fits.{rule_of}
+use Rattle.zv_map2d.proofs.Common.{sym, ◌∙◌, rule_of}
 use Rattle.zv_map2d.proofs.Places.{fits_is}
 use Rattle.zv_map2d.proofs.map.Map2dOver.takes_at.Goals as goal
 

@@ -1,4 +1,4 @@
-use Rattle.std.proofs.Common.{rules}
+use Rattle.zv_map2d.proofs.Common.{rules}
 use Rattle.zv_map2d.proofs.Ends.{leads_on, refused_first}
 use Rattle.zv_map2d.proofs.map.Map2dOver.try_from_triples.Goals as goal
 

@@ -1,7 +1,4 @@
-use Rattle.std.proofs.Common.{◌<◌, ◌-◌, [], ◌∷◌, ◌++◌, length, sym, ◌∙◌, ap, arith}
-use Rattle.std.proofs.lemmas.List.{length_push}
-use Rattle.zv_map2d.specs.Borrowed.{rows_in}
-use Rattle.zv_map2d.specs.Views.{Row, rows_seen}
+use Rattle.zv_map2d.proofs.Common.{◌<◌, ◌-◌, [], ◌∷◌, ◌++◌, length, sym, ◌∙◌, ap, arith, length_push, rows_in, Row, rows_seen}
 use Rattle.zv_map2d.proofs.RowIters.{seen_last}
 use Rattle.zv_map2d.proofs.rows.ZeroMap2dIter0DoubleEndedIterator.next_back.Goals as goal
 

@@ -1,6 +1,4 @@
-use Rattle.std.proofs.Common.{◌<◌, ◌+◌, ◌-◌, ◌∷◌, length, sym, ◌∙◌, ap, arith}
-use Rattle.zv_map2d.specs.Borrowed.{rows_in}
-use Rattle.zv_map2d.specs.Views.{Row, rows_seen}
+use Rattle.zv_map2d.proofs.Common.{◌<◌, ◌+◌, ◌-◌, ◌∷◌, length, sym, ◌∙◌, ap, arith, rows_in, Row, rows_seen}
 use Rattle.zv_map2d.proofs.RowIters.{seen_next}
 use Rattle.zv_map2d.proofs.rows.ZeroMap2dIter0Iterator.next.Goals as goal
 
