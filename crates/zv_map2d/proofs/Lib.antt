@@ -6,7 +6,6 @@ pub mod Numbers
 pub mod Parsed
 pub mod Picked
 pub mod Places
-pub mod Room
 pub mod RowIters
 pub mod Seen
 pub mod Splices

@@ -1,18 +1,14 @@
 -- Four lists that pass the checks of a parse are those of a map.
-use Rattle.zv_map2d.proofs.Common.{◌≡◌, ℕ, ◌+◌, ◌-◌, ◌<◌, ◌≤◌, true, List, [], ◌∷◌, ◌++◌, length, take, drop, Some, None, refl, sym, ◌∙◌, ap, subst, arith}
+use Rattle.zv_map2d.proofs.Common.{◌≡◌, ℕ, ◌+◌, ◌-◌, ◌<◌, ◌≤◌, true, List, [], ◌∷◌, ◌++◌, length, drop, Some, None, refl, sym, ◌∙◌, ap, subst, arith}
 use Rattle.zv_map2d.proofs.Common.{length-drop, drop-map, drop_all, length-map, take-map, same_Some, IsTotalOrder, list_all, AllByRecursion, flat_map}
 use Rattle.zv_map2d.proofs.Common.{IsStrictlySortedBy, Ordering, keys_of, values_of, last_ascending, Lists, keys_ascend, lists_fault, pieces, Bytes, ascends}
-use Rattle.zv_map2d.proofs.Common.{Rows, IsFlat, IsRow, IsWell, ends_from, firsts, rows_of}
-use Rattle.std.proofs.Common.{slice_range, length-take-le}
+use Rattle.zv_map2d.proofs.Common.{Rows, IsFlat, IsRow, IsWell, ends_from, firsts, rows_of, slice_range, length-take-le, zip}
 use Rattle.std.proofs.lemmas.Bool.{and_parts}
 use Rattle.std.proofs.lemmas.Bool.Decides.{nat_tests}
 use Rattle.std.proofs.lemmas.List.Folds.{drop_split}
 use Rattle.std.proofs.lemmas.Slice.Zip.{firsts-zip, seconds-zip}
-use Rattle.std.specs.List.{zip}
 use Rattle.zv_map.proofs.Ascents.{sorted_from_ascends}
 use Rattle.zv_map2d.proofs.Flat.{pick_is}
-
--- ---- numbers that ascend
 
 ascends_first : (n e top : ℕ) (es : List ℕ) → last_ascending n (e ∷ es) ≡ Some top → (n < e) × (last_ascending e es ≡ Some top)
 ascends_first n e top es h = grind arith
@@ -24,8 +20,6 @@ last_above n top (e ∷ es) h = let t = ascends_first n e top es h in omega (ari
 -- the next end of an ascending joiner
 pub end_within : (n e top : ℕ) (rest es : List ℕ) → rest ≡ e ∷ es → last_ascending n rest ≡ Some top → e ≤ top
 end_within n e top rest es next h = last_above e top es (ascends_first n e top es (ap (last_ascending n) (sym next) ∙ h)).1
-
--- ---- from the checks to the map
 
 module _ (order : Bytes → Bytes → Ordering) where
   -- from place n on, the first keys, the ends and the pairs are those of the rows
@@ -48,16 +42,13 @@ module _ (order : Bytes → Bytes → Ordering) where
         let row : List (Bytes × Bytes) = slice_range xs n e in
         let size : length row ≡ e - n = length-take-le (e - n) (drop n xs) (omega (arith, last_above e (length xs) es a.1, length-drop n xs)) in
         let here : n + length row ≡ e = omega (arith, size, a.0) in
-        let keys : slice_range (keys_of xs) n e ≡ keys_of row =
-        ap (λ (z : List Bytes). take (e - n) z) (drop-map (λ p. p.0) n xs) ∙ take-map (λ p. p.0) (e - n) (drop n xs) in
+        let keys : slice_range (keys_of xs) n e ≡ keys_of row = simp (drop-map, take-map) in
         record {
           firsts_are = ap (λ (z : List Bytes). k ∷ z) rest.firsts_are;
           ends_are = rw here (ap (λ (z : List ℕ). e ∷ z) rest.ends_are);
           pairs_are = drop_split xs n e (omega (arith, a.0)) ∙ ap (λ (z : List (Bytes × Bytes)). row ++ z) rest.pairs_are;
           rows = ((omega (arith, size, a.0), subst (IsStrictlySortedBy order) keys (sorted_from_ascends total _ b.0)), rest.rows);
         }
-
--- ---- lists that are checked
 
 module _ (o0 o1 : Bytes → Bytes → Ordering) where
   -- four lists are those of the map, whose keys ascend

@@ -1,10 +1,8 @@
 -- Images: from the bytes to the parts, and to the map that they stand for.
 use Rattle.zv_map2d.proofs.Common.{◌≡◌, ℕ, ◌≤◌, List, ◌++◌, length, take, drop, Option, Some, None, sym, ◌∙◌, ap, subst, arith, Result, Ok, Err, append-nil}
 use Rattle.zv_map2d.proofs.Common.{nil_from_length, take-append-drop, option_and_then_some, flat_map, IsBytes, le, number, elements, list_fault, Part}
-use Rattle.zv_map2d.proofs.Common.{joiner_fault, lists_fault, lists_read, read_fault, rows_read, Bytes, ends, Map2d, parts_of}
-use Rattle.std.proofs.Common.{append_assoc}
+use Rattle.zv_map2d.proofs.Common.{lists_read, read_fault, rows_read, Bytes, ends, Map2d, parts_of, append_assoc, length-take-le}
 use Rattle.std.proofs.lemmas.Cmp.{nat_list_cmp_total as total}
-use Rattle.std.proofs.lemmas.List.{length-take-le}
 use Rattle.std.specs.Result.{result_err, IfOk}
 use Rattle.zv_ule.proofs.Fields.{le-number_at}
 use Rattle.zv_ule.proofs.Lists.{front_bytes, back_bytes}
@@ -18,8 +16,6 @@ use Rattle.zv_map2d.specs.Image.{by_bytes, bytes_fault, texts_to_bytes, var_list
 use Rattle.zv_map2d.specs.declared.error.EditError.{EditError}
 use Rattle.zv_map2d.proofs.Numbers.{joiner_written}
 use Rattle.zv_map2d.proofs.Parsed.{held_lists}
-
--- ---- what is read was framed
 
 -- a first part in its frame, and the rest
 record IsCut (b : List ℕ) (x : List ℕ × List ℕ) : Type 0 where
@@ -37,8 +33,7 @@ first_cut b x h e =
     let size : le 8 (length (take n d)) ≡ take 8 b =
     ap (le 8) (length-take-le n d within) ∙ le-number_at 8 (take 8 b) (length-take-le 8 b long) (front_bytes 8 b h long) in
     let whole : framed (take n d) ++ drop n d ≡ b =
-    append_assoc (le 8 (length (take n d))) (take n d) (drop n d) ∙ (ap (λ (c : List ℕ). le 8 (length (take n d)) ++ c) (take-append-drop n d)
-    ∙ (ap (λ (c : List ℕ). c ++ d) size ∙ take-append-drop 8 b)) in
+    rw (append_assoc (le 8 (length (take n d))), take-append-drop n d) (ap (λ (c : List ℕ). c ++ d) size ∙ take-append-drop 8 b) in
     let later = back_bytes 8 b h in
     subst (IsCut b) cut (record { whole = sym whole; part = front_bytes n d later within; rest = back_bytes n d later })
 
@@ -61,8 +56,6 @@ frame-unframe b p h e =
     let whole : b ≡ frame q = cc (k0.whole, k1.whole, k2.whole, k3.whole, nil_from_length w.1 none, append-nil (framed w.0)) in
     subst (λ (x : Parts). (b ≡ frame x) × AreBytes x) same (whole, record { keys0 = k0.part; joiner = k1.part; keys1 = k2.part; values = k3.part })))))
 
--- ---- from the parts to the map
-
 -- a part without a fault spells the elements that are read of it, which are valid
 spelled : (fault : Bytes → Option UleError) (b : List ℕ) {xs : List Bytes} → IsBytes b → (var_list fault).fault b ≡ None → elements 2 b ≡ xs →
     Part 2 b xs × AreValid fault xs
@@ -73,17 +66,12 @@ spelled fault b bytes none e =
 -- parts of bytes that are read without a fault are those of a map
 pub parts_stand : (image : List ℕ) (p : Parts) → image ≡ frame p → AreBytes p → read_fault texts_to_bytes p ≡ None → Stands image (rows_read texts_to_bytes p)
 parts_stand image p h bytes e =
-    let joiner : joiner_fault p.joiner ≡ None = grind arith in
-    let keys0 : (var_list text_fault).fault p.keys0 ≡ None = grind arith in
-    let keys1 : (var_list text_fault).fault p.keys1 ≡ None = grind arith in
-    let values : (var_list bytes_fault).fault p.values ≡ None = grind arith in
-    let lists : lists_fault by_bytes by_bytes (lists_read texts_to_bytes p) ≡ None = grind arith in
-    let held = held_lists by_bytes by_bytes total total (lists_read texts_to_bytes p) lists in
-    let k0s = spelled text_fault p.keys0 bytes.keys0 keys0 held.0.firsts_are in
-    let k1s = spelled text_fault p.keys1 bytes.keys1 keys1 held.0.seconds_are in
-    let vs = spelled bytes_fault p.values bytes.values values held.0.values_are in
+    let held = held_lists by_bytes by_bytes total total (lists_read texts_to_bytes p) (grind arith) in
+    let k0s = spelled text_fault p.keys0 bytes.keys0 (grind arith) held.0.firsts_are in
+    let k1s = spelled text_fault p.keys1 bytes.keys1 (grind arith) held.0.seconds_are in
+    let vs = spelled bytes_fault p.values bytes.values (grind arith) held.0.values_are in
     let es : p.joiner ≡ flat_map (le 4) (ends (rows_read texts_to_bytes p)) =
-    sym (joiner_written p.joiner bytes.joiner joiner) ∙ ap (flat_map (le 4)) held.0.ends_are in
+    sym (joiner_written p.joiner bytes.joiner (grind arith)) ∙ ap (flat_map (le 4)) held.0.ends_are in
     record {
       map = record { in_order = held.1; texts0 = k0s.1; texts1 = k1s.1 };
       parts = p;
@@ -91,14 +79,11 @@ parts_stand image p h bytes e =
       spelled = record { keys0 = k0s.0; joiner = es; keys1 = k1s.0; values = vs.0 };
     }
 
--- ---- images
-
 -- what reading the parts of an image gives
 module _ (image : List ℕ) (p : Parts) (bytes : IsBytes image) (e : Some p ≡ unframe image) where
   pub parsed_stands : (r : Result Map2d EditError) → result_err r ≡ read_fault texts_to_bytes p → IfOk r (λ m. m.rows ≡ rows_read texts_to_bytes p) →
       IfOk r (λ m. Stands image m.rows)
-  parsed_stands (Ok m) none same =
-      let k = frame-unframe image p bytes (sym e) in subst (Stands image) (sym same) (parts_stand image p k.0 k.1 (sym none))
+  parsed_stands (Ok m) none same = let k = frame-unframe image p bytes (sym e) in rw same (parts_stand image p k.0 k.1 (sym none))
   parsed_stands (Err x) none same = tt
 
   pub parsed_frame : (r : Result Map2d EditError) → IfOk r (λ m. parts_of m ≡ p) → IfOk r (λ m. image ≡ frame (parts_of m))

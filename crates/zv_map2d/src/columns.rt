@@ -160,6 +160,7 @@ impl<
     }
 
     /// The place among all pairs of a pair of the row, or of the row's end.
+    #[tactic(auto, using(crate::proofs::Flat::row_ends))]
     pub(crate) fn pair_start(&self, row: usize, pair: usize) -> usize
         requires row { row < length self.now.rows }
         requires pair { pair ≤ length (row_at self.now.rows row) }

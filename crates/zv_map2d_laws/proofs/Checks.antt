@@ -9,10 +9,13 @@ use Rattle.std.specs.declared.cmp.Ordering.{Ordering}
 use Rattle.zv_map.specs.Maps.{keys_of, values_of}
 use Rattle.zv_map2d.specs.Causes.{last_ascending, Lists, keys_ascend, lists_fault}
 use Rattle.zv_map2d.specs.Keys.{Bytes, ascends, below_next}
-use Rattle.zv_map2d.specs.Rows.{Rows, IsRow, ends_from, firsts, seconds}
-use Rattle.zv_map2d.proofs.Flat.{pieces_at_ends, values_as_many}
+use Rattle.zv_map2d.specs.Rows.{Rows, IsRow, ends_from, firsts, seconds, values}
+use Rattle.zv_map2d.proofs.Flat.{length_pick, pieces_at_ends}
 use Rattle.zv_map2d.proofs.Parsed.{IsHeld}
 use Rattle.zv_map2d.proofs.Seen.{ends_count, rows_count}
+
+values_as_many : (m : Rows) → length (values m) ≡ length (seconds m)
+values_as_many m = length_pick (λ p. p.1) m ∙ sym (length_pick (λ p. p.0) m)
 
 module _ (order : Bytes → Bytes → Ordering) where
   -- its ends ascend up to the number of its pairs

@@ -93,7 +93,7 @@ module _ (p : Parts) (m : Rows) (s : Spells p m) (t : IsTextMap m) where
       (held_fault by_bytes by_bytes (lists_read texts_to_bytes p) m held_of_map)
 
   rows_of_map : rows_read texts_to_bytes p ≡ m
-  rows_of_map = view_of _ _ _ _ m held_of_map.0
+  rows_of_map = view_of held_of_map.0
 
 -- ---- images
 

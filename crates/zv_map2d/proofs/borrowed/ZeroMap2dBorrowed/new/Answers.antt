@@ -12,5 +12,4 @@ invariant_of-result g c =
 
 pub returns : goal.returns
 returns g c =
-    view_of _ _ _ _ _ (none c.zvl_new_borrowed.ensures.list (ap numbers c.new_empty.ensures) c.zvl_new_borrowed-2.ensures.list
-    c.zvl_new_borrowed-3.ensures.list)
+    view_of (none c.zvl_new_borrowed.ensures.list (ap numbers c.new_empty.ensures) c.zvl_new_borrowed-2.ensures.list c.zvl_new_borrowed-3.ensures.list)

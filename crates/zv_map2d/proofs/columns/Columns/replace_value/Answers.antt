@@ -15,7 +15,7 @@ invariant_of-self-2 g c =
 
 pub returns : goal.returns
 returns g c = record {
-  rows = view_of _ _ _ _ _ (same_lists refl refl refl c.in_ok-old.ensures.ok
+  rows = view_of (same_lists refl refl refl c.in_ok-old.ensures.ok
       (value_set (seen c.self.view_is c.self.invariant) _ _ _ c.requires.row c.pair_start-at.ensures _ c.requires.pair));
   before = search rules;
   err = tt;
