@@ -1,21 +1,11 @@
 -- How many comparisons one search after another makes.
-use Rattle.std.proofs.Common.{ℕ, ◌-◌, ◌≤◌, [], length, arith}
-use Rattle.std.specs.Cmp.{IsTotalOrder}
-use Rattle.zv_map.specs.Maps.{IsAt}
-use Rattle.zv_ule.specs.Search.{AtMostDigits, compared}
+use Rattle.zv_map2d.proofs.Common.{ℕ, ◌-◌, ◌≤◌, [], length, arith, IsTotalOrder, IsAt, AtMostDigits, compared, Bytes, Order, Rows, firsts, row, row_at}
 use Rattle.zv_map2d.specs.Bounds.{AtMostDigitsOf}
-use Rattle.zv_map2d.specs.Keys.{Bytes, Order}
-use Rattle.zv_map2d.specs.Rows.{Rows, firsts, row, row_at}
 use Rattle.zv_map2d.proofs.Places.{row_is}
 
--- where two searches are made
-pub both_searches : (start middle end a b : ℕ) → start ≤ middle → middle ≤ end → AtMostDigits (middle - start) a → AtMostDigits (end - middle) b →
-    AtMostDigitsOf (end - start) a b
-both_searches start middle end a b u v few more j k h l = omega (arith, few j h, more k l, u, v)
-
--- and the second is in the row that the first found
+-- where the second search is in the row that the first found
 pub searches_in_row : {order0 order1 : Order} → IsTotalOrder order0 → IsTotalOrder order1 → (m : Rows) (k0 : Bytes) (i : ℕ) →
     IsAt (compared order0 (firsts m) k0) i → (start middle end : ℕ) → start ≤ middle → middle ≤ end → AtMostDigits (middle - start) (length m) →
     AtMostDigits (end - middle) (length (row_at m i)) → AtMostDigitsOf (end - start) (length m) (length (row order0 m k0))
 searches_in_row total0 total1 m k0 i at start middle end u v few more =
-    rw (row_is total0 total1 m k0 [] i at) (both_searches start middle end (length m) (length (row_at m i)) u v few more)
+    rw (row_is total0 total1 m k0 [] i at) (λ j k h l. omega (arith, few j h, more k l, u, v))

@@ -1,32 +1,15 @@
 -- The end of a map, and maps that are made of pairs.
-use Rattle.std.proofs.Common.{◌≡◌, ◌⊎◌, ℕ, suc, ◌+◌, ◌-◌, ◌<◌, ◌≤◌, ◌&&◌, true, false, List, [], ◌∷◌, length, drop, get_or, Option, Some, None, Ok, Err}
-use Rattle.std.proofs.Common.{Result, IfErr, IfSome, is_some, is_none, inl, inr, refl, sym, ◌∙◌, ap, subst, arith}
-use Rattle.std.proofs.lemmas.List.{drop_more, length-map}
-use Rattle.std.specs.Cmp.{IsTotalOrder}
-use Rattle.std.specs.List.Sorted.{IsStrictlySortedBy}
-use Rattle.std.specs.Ordering.{is_gt, ordering_index, ordering_reverse}
-use Rattle.std.specs.declared.cmp.Ordering.{Ordering}
-use Rattle.std.specs.declared.cmp.Ordering.TheVariants.{Less, Equal, Greater}
+use Rattle.zv_map2d.proofs.Common.{◌≡◌, ◌⊎◌, ℕ, suc, ◌+◌, ◌-◌, ◌<◌, ◌&&◌, true, false, List, [], ◌∷◌, length, drop, get_or, Option, Some, None, Ok, Err, Result}
+use Rattle.zv_map2d.proofs.Common.{IfErr, is_some, is_none, inl, inr, refl, sym, ◌∙◌, ap, subst, arith, drop_more, length-map, IsTotalOrder, IsStrictlySortedBy}
+use Rattle.zv_map2d.proofs.Common.{Ordering, Equal, Greater, placed, IsAt, keys_of, IsGap, answer_at, compared, Triple, first_refusal, is_above_key, put_all}
+use Rattle.zv_map2d.proofs.Common.{written, Rule, fits, Bytes, Order, nth, IsPlace, Rows, IsWell, find, firsts, put, row_at, InRow, NewRow, IfSome}
+use Rattle.std.specs.Ordering.{ordering_index, ordering_reverse}
 use Rattle.zv_map.proofs.Ascents.{compared_at, sorted_rises}
-use Rattle.zv_map.proofs.Places.{placed}
-use Rattle.zv_map.specs.Maps.{IsAt, keys_of}
-use Rattle.zv_ule.specs.Search.{IsGap, answer_at, compared}
-use Rattle.zv_map2d.specs.Appending.{Triple, first_refusal, is_above_key, put_all, written}
-use Rattle.zv_map2d.specs.Fits.{Rule, fits}
-use Rattle.zv_map2d.specs.Keys.{Bytes, Order, nth}
-use Rattle.zv_map2d.specs.Places.{IsPlace}
 use Rattle.zv_map2d.specs.Refusals.{IsRefusal, is_full}
-use Rattle.zv_map2d.specs.Rows.{Rows, IsWell, find, firsts, put, row_at}
 use Rattle.zv_map2d.specs.declared.error.Map2dError.{Map2dError}
 use Rattle.zv_map2d.specs.declared.error.Map2dError.TheVariants.{TooLarge, TooMany, Memory}
 use Rattle.zv_map2d.specs.declared.place.Place.{Place}
-use Rattle.zv_map2d.specs.declared.place.Place.TheVariants.{InRow, NewRow}
 use Rattle.zv_map2d.proofs.Flat.{row_well}
-
-index_less : (r : Ordering) → ordering_index r ≤ 0 → r ≡ Less
-index_less Less h = refl
-index_less Equal h = absurd (omega (arith, h))
-index_less Greater h = absurd (omega (arith, h))
 
 module _ {order : Order} (total : IsTotalOrder order) (k : Bytes) (ks : List Bytes) (up : IsStrictlySortedBy order ks) (i : ℕ) (last : suc i ≡ length ks) where
   last_answer : (r : Ordering) → order k (nth ks i) ≡ r → answer_at (compared order ks k) i ≡ ordering_reverse r
@@ -39,11 +22,7 @@ module _ {order : Order} (total : IsTotalOrder order) (k : Bytes) (ks : List Byt
       let below = last_answer Greater e in
       record {
         within = omega (arith, many);
-        less = λ j h. index_less _ (omega (
-          arith,
-          ap ordering_index below,
-          sorted_rises total k ks up j i (omega (arith, h, last)) (omega (arith, many, last)),
-        ));
+        less = λ j h. grind (arith, ap ordering_index below, sorted_rises total k ks up j i (omega (arith, h, last)) (omega (arith, many, last)));
         greater = λ j h w. absurd (omega (arith, h, w, many));
       }
 
@@ -53,11 +32,6 @@ module _ {order : Order} (total : IsTotalOrder order) (k : Bytes) (ks : List Byt
       let many : length (compared order ks k) ≡ length ks = length-map ks (λ x. order x k) in
       placed total k ks up (Ok i) (record { within = omega (arith, many, last); equal = last_answer Equal e })
 
-greater_of : (r : Ordering) → is_gt r ≡ true → r ≡ Greater
-greater_of Less e = cc
-greater_of Equal e = cc
-greater_of Greater e = refl
-
 module _ {order0 order1 : Order} (total0 : IsTotalOrder order0) (total1 : IsTotalOrder order1) (m : Rows) (k0 k1 : Bytes) (well : IsWell order0 order1 m)
     (i : ℕ) (last : suc i ≡ length m) where
   last_first : suc i ≡ length (firsts m)
@@ -65,25 +39,20 @@ module _ {order0 order1 : Order} (total0 : IsTotalOrder order0) (total1 : IsTota
 
   -- a first key above the last has its row after all
   pub new_row_at_end : (n : ℕ) → n ≡ length m → order0 k0 (nth (firsts m) i) ≡ Greater → IsPlace order0 order1 m k0 k1 (NewRow n)
-  new_row_at_end n is e =
-      subst (IsGap (compared order0 (firsts m) k0)) (length-map m (λ q. q.0) ∙ sym is) (gap_at_end total0 k0 (firsts m) well.0 i last_first e)
+  new_row_at_end n is e = rw (is, ← length-map m (λ q. q.0)) (gap_at_end total0 k0 (firsts m) well.0 i last_first e)
 
   -- a second key above the last of the last row has its place there
-  pub pair_at_end : order0 k0 (nth (firsts m) i) ≡ Equal → is_above_key order1 (keys_of (row_at m i)) k1 ≡ true →
-      IsPlace order0 order1 m k0 k1 (InRow i (length (row_at m i)))
-  pair_at_end e above =
-      let row = row_well order1 m i well.1 (omega (arith, last)) in
-      let ks = keys_of (row_at m i) in
-      let many : length ks ≡ length (row_at m i) = length-map (row_at m i) (λ q. q.0) in
-      let end : suc (length ks - 1) ≡ length ks = omega (arith, row.0, many) in (
-        at_end total0 k0 (firsts m) well.0 i last_first e,
-        subst (IsGap (compared order1 ks k1)) many (gap_at_end total1 k1 ks row.1 (length ks - 1) end (greater_of _ above)),
-      )
-
   pub some_at_end : (o : Option Place) → order0 k0 (nth (firsts m) i) ≡ Equal → is_some o ≡ is_above_key order1 (keys_of (row_at m i)) k1 →
       IfSome o (λ p. p ≡ InRow i (length (row_at m i))) → IfSome o (IsPlace order0 order1 m k0 k1)
   some_at_end None e above is = tt
-  some_at_end (Some p) e above is = subst (IsPlace order0 order1 m k0 k1) (sym is) (pair_at_end e (sym above))
+  some_at_end (Some p) e above is =
+      let row = row_well order1 m i well.1 (omega (arith, last)) in
+      let ks = keys_of (row_at m i) in
+      let many : length ks ≡ length (row_at m i) = length-map (row_at m i) (λ q. q.0) in
+      let end : suc (length ks - 1) ≡ length ks = omega (arith, row.0, many) in rw is (
+        at_end total0 k0 (firsts m) well.0 i last_first e,
+        subst (IsGap (compared order1 ks k1)) many (gap_at_end total1 k1 ks row.1 (length ks - 1) end (grind (arith, above))),
+      )
 
 -- ---- triples that are left to be put
 
@@ -106,20 +75,12 @@ module _ {A B C : Type 0} (key0 : A → Bytes) (key1 : B → Bytes) (value : C �
   -- a put that is taken leaves the others
   pub leads_on : {n : Rows} → n ≡ put order0 order1 m (key0 t.0) (key1 t.1) (value t.2) → fits rule order0 order1 m (key0 t.0) (key1 t.1) (value t.2) ≡ true →
       (is_none (find order0 order1 m (key0 t.0) (key1 t.1)) && is_full m) ≡ false → LeadsTo rule order0 order1 all rest n
-  leads_on same takes free =
-      let step : first_refusal rule order0 order1 m ((key0 t.0, key1 t.1, value t.2) ∷ rest)
-      ≡ first_refusal rule order0 order1 (put order0 order1 m (key0 t.0) (key1 t.1) (value t.2)) rest = rw (takes, free) refl in
-      subst (LeadsTo rule order0 order1 all rest) (sym same) (record { rows = next.rows; refusals = sym step ∙ next.refusals })
+  leads_on same takes free = rw same (record { rows = next.rows; refusals = rw (takes, free) at next.refusals })
 
   -- and one that is refused is the first
-  first_refused : (error : Map2dError) →
-      IsRefusal (fits rule order0 order1 m (key0 t.0) (key1 t.1) (value t.2)) (is_none (find order0 order1 m (key0 t.0) (key1 t.1)) && is_full m) error →
-      (error ≡ Memory) ⊎ (first_refusal rule order0 order1 [] all ≡ Some error)
-  first_refused TooLarge r = inr (sym next.refusals ∙ rw r refl)
-  first_refused TooMany r = inr (sym next.refusals ∙ rw (r.0, r.1) refl)
-  first_refused Memory r = inl refl
-
   pub refused_first : {X : Type 0} (result : Result X Map2dError) (error : Map2dError) → result ≡ Err error →
       IsRefusal (fits rule order0 order1 m (key0 t.0) (key1 t.1) (value t.2)) (is_none (find order0 order1 m (key0 t.0) (key1 t.1)) && is_full m) error →
       IfErr result (λ e. (e ≡ Memory) ⊎ (first_refusal rule order0 order1 [] all ≡ Some e))
-  refused_first result error is r = rw is (first_refused error r)
+  refused_first result TooLarge is r = rw is (inr (sym next.refusals ∙ rw r refl))
+  refused_first result TooMany is r = rw is (inr (sym next.refusals ∙ rw (r.0, r.1) refl))
+  refused_first result Memory is r = rw is (inl refl)

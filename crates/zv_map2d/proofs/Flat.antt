@@ -1,16 +1,10 @@
 -- A map in two levels as four lists: which map they stand for, and where a row stands in them.
-use Rattle.std.proofs.Common.{◌≡◌, ℕ, zero, suc, ◌+◌, ◌-◌, ◌<◌, ◌≤◌, List, [], ◌∷◌, ◌++◌, length, get_or, take, drop, map, Some, refl, sym, ◌∙◌, ap}
-use Rattle.std.proofs.Common.{arith, length-append}
+use Rattle.zv_map2d.proofs.Common.{◌≡◌, ℕ, zero, suc, ◌+◌, ◌-◌, ◌<◌, ◌≤◌, List, [], ◌∷◌, ◌++◌, length, get_or, take, drop, map, Some, refl, sym, ◌∙◌, ap, arith}
+use Rattle.zv_map2d.proofs.Common.{length-append, drop-drop, drop_at, length-map, map-append, map-id, take-append-drop, take_at, slice_get-get_or, flat_map}
+use Rattle.zv_map2d.proofs.Common.{slice_get, AllByRecursion, Ordering, values_of, pieces, Bytes, nth, Rows, firsts, seconds, values, ends_from, ends, rows_of}
+use Rattle.zv_map2d.proofs.Common.{IsFlat, IsRow, before, row_at, size, get_or-map, zip, slice_range}
 use Rattle.std.proofs.Math.Seq.{split_at}
 use Rattle.std.proofs.lemmas.List.Concat.{flat_map-append, get_or-flat_map}
-use Rattle.std.proofs.lemmas.List.{drop-drop, drop_at, get_or-map, length-map, map-append, map-id, take-append-drop, take_at}
-use Rattle.std.proofs.lemmas.Option.{slice_get-get_or}
-use Rattle.std.specs.List.{flat_map, zip, slice_range, slice_get, AllByRecursion}
-use Rattle.std.specs.declared.cmp.Ordering.{Ordering}
-use Rattle.zv_map.specs.Maps.{values_of}
-use Rattle.zv_var.specs.Format.{pieces}
-use Rattle.zv_map2d.specs.Keys.{Bytes, nth}
-use Rattle.zv_map2d.specs.Rows.{Rows, firsts, seconds, values, ends_from, ends, rows_of, IsFlat, IsRow, before, row_at, size}
 
 pub zip_parts : {K X : Type 0} (r : List (K × X)) → zip (map (λ p. p.0) r) (map (λ p. p.1) r) ≡ r
 zip_parts [] = refl
@@ -28,9 +22,6 @@ pick_is g (r ∷ m) = ap (λ z. map g r.1 ++ z) (pick_is g m) ∙ sym (map-appen
 
 pub length_pick : (g : Bytes × Bytes → Bytes) (m : Rows) → length (pick g m) ≡ size m
 length_pick g m = ap length (pick_is g m) ∙ length-map (flat_map (λ r. r.1) m) g
-
-pub values_as_many : (m : Rows) → length (values m) ≡ length (seconds m)
-values_as_many m = length_pick (λ p. p.1) m ∙ sym (length_pick (λ p. p.0) m)
 
 -- ---- row i
 
@@ -71,9 +62,8 @@ module _ (g : Bytes × Bytes → Bytes) (m : Rows) (i : ℕ) (h : i < length m) 
 
   pub row_range : slice_range (pick g m) (before m i) (before m (suc i)) ≡ map g (row_at m i)
   row_range =
-      let w : length (map g (row_at m i)) ≡ before m (suc i) - before m i = omega (arith, length-map (row_at m i) g, before_suc m i h) in
-      ap (λ z. take (before m (suc i) - before m i) (drop (before m i) z)) pick_split
-      ∙ (ap (λ z. take (before m (suc i) - before m i) z) (drop_at (pick g (take i m)) _ _ (length_pick g (take i m))) ∙ take_at _ _ _ w)
+      rw (pick_split, drop_at (pick g (take i m)) _ _ (length_pick g (take i m)))
+      (take_at _ _ _ (omega (arith, length-map (row_at m i) g, before_suc m i h)))
 
   -- pair j of row i, and the place after the last
   module _ (j : ℕ) where
@@ -85,14 +75,17 @@ module _ (g : Bytes × Bytes → Bytes) (m : Rows) (i : ℕ) (h : i < length m) 
 
     pub nth_pair : j < length (row_at m i) → nth (pick g m) (before m i + j) ≡ nth (map g (row_at m i)) j
     nth_pair k =
-        let row : row_at m i ≡ (get_or m i ([], [])).1 = ap (λ r. r.1) (sym (row_is m i h)) in
-        ap (λ n. nth (pick g m) (n + j)) (sym (length_pick g (take i m)))
-        ∙ (get_or-flat_map (λ r. map g r.1) m i j ([], []) [] h (omega (arith, length-map (row_at m i) g, ap (λ z. length (map g z)) row))
-        ∙ ap (λ z. nth (map g z) j) (sym row))
+        rw (← length_pick g (take i m), ← ap (λ r. r.1) (row_is m i h)) (get_or-flat_map (λ r. map g r.1) m i j ([], []) [] h
+        (omega (arith, length-map (get_or m i ([], [])).1 g, ap (λ r. length r.1) (row_is m i h), k)))
 
     pub get_pair : j < length (row_at m i) → slice_get (pick g m) (before m i + j) ≡ slice_get (map g (row_at m i)) j
-    get_pair k = slice_get-get_or (pick g m) (before m i + j) [] (pair_within k)
-        ∙ (ap Some (nth_pair k) ∙ sym (slice_get-get_or (map g (row_at m i)) j [] (omega (arith, length-map (row_at m i) g, k))))
+    get_pair k =
+        rw (slice_get-get_or (pick g m) _ [] (pair_within k), slice_get-get_or (map g (row_at m i)) j [] (omega (arith, length-map (row_at m i) g)))
+        (ap Some (nth_pair k))
+
+-- the pairs of a row end within the second keys
+pub row_ends : (m : Rows) (i : ℕ) → i < length m → before m i + length (row_at m i) ≤ length (seconds m)
+row_ends m i h = place_within (λ q. q.0) m i h (length (row_at m i)) (omega arith)
 
 -- ---- ends
 
@@ -112,8 +105,7 @@ pieces_at_ends f long n [] xs e = refl
 pieces_at_ends f long n (r ∷ m) xs e =
     let w : n + length r.1 - n ≡ length r.1 = omega arith in
     let here : slice_range xs n (n + length r.1) ≡ f r.1 = rw (w, e) (take_at (f r.1) _ (length r.1) (long r.1)) in
-    let rest : drop (n + length r.1) xs ≡ flat_map (λ q. f q.1) m =
-    sym (drop-drop (length r.1) n xs) ∙ (ap (drop (length r.1)) e ∙ drop_at (f r.1) _ (length r.1) (long r.1)) in
+    let rest : drop (n + length r.1) xs ≡ flat_map (λ q. f q.1) m = rw (← drop-drop (length r.1) n xs, e) (drop_at (f r.1) _ (length r.1) (long r.1)) in
     rw (here, pieces_at_ends f long (n + length r.1) m xs rest) refl
 
 -- ---- the map that lists stand for
@@ -126,5 +118,5 @@ rows_of_own m =
     rw (pairs, rows) (zip_parts m)
 
 -- four lists that are a map's stand for it
-pub view_of : (k0s : List Bytes) (es : List ℕ) (k1s vs : List Bytes) (m : Rows) → IsFlat k0s es k1s vs m → rows_of k0s es k1s vs ≡ m
-view_of k0s es k1s vs m h = rw (h.firsts_are, h.ends_are, h.seconds_are, h.values_are) (rows_of_own m)
+pub view_of : {k0s : List Bytes} {es : List ℕ} {k1s vs : List Bytes} {m : Rows} → IsFlat k0s es k1s vs m → rows_of k0s es k1s vs ≡ m
+view_of h = rw (h.firsts_are, h.ends_are, h.seconds_are, h.values_are) (rows_of_own _)

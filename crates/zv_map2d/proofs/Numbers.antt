@@ -1,17 +1,13 @@
 -- A joiner as a list of numbers of four bytes.
-use Rattle.std.proofs.Common.{◌≡◌, ℕ, ◌<◌, ◌^◌, List, None, refl, ap, arith, subst}
-use Rattle.std.specs.List.{AllByRecursion, flat_map}
+use Rattle.zv_map2d.proofs.Common.{◌≡◌, ℕ, ◌<◌, ◌^◌, List, None, refl, ap, arith, subst, flat_map, IsBytes, le, joiner_fault, numbers}
 use Rattle.std.specs.Int.{w32, to_le_bytes, from_le_bytes}
-use Rattle.zv_ule.specs.Bytes.{IsBytes, le}
 use Rattle.zv_ule.specs.Fixed.{IsSpelling}
-use Rattle.zv_ule.specs.laws.Joined.{joined_values}
 use Rattle.zv_ule.specs.laws.Twins.{u32_twin}
 use Rattle.zv_ule.specs.declared.error.TyName.TheVariants.{RawBytes4}
-use Rattle.zv_ule.proofs.Lists.{joined_fault, read_list}
-use Rattle.zv_map2d.specs.Causes.{joiner_fault, numbers}
+use Rattle.zv_ule.proofs.Lists.{read_list}
 
 -- what is read of four bytes, and what a number is written as
-abbrev IsWritten : (ℕ → List ℕ) → Type 0
+abbrev pub IsWritten : (ℕ → List ℕ) → Type 0
 IsWritten chunk = IsSpelling (λ v. v < 2 ^ 32) 4 (λ c. None) chunk (λ c. from_le_bytes w32 c)
 
 as_u32 : IsWritten (λ v. to_le_bytes w32 v)
@@ -25,17 +21,9 @@ as_u32 = record {
 lowest_first : (v : ℕ) → to_le_bytes w32 v ≡ le 4 v
 lowest_first v = grind arith
 
-as_joiner : IsWritten (le 4)
+pub as_joiner : IsWritten (le 4)
 as_joiner = subst IsWritten (λ i v. lowest_first v i) as_u32
 
 -- a joiner is the bytes of its numbers
 pub joiner_written : (b : List ℕ) → IsBytes b → joiner_fault b ≡ None → flat_map (le 4) (numbers b) ≡ b
 joiner_written b bytes none = (read_list as_joiner RawBytes4 b bytes none).joined
-
--- and numbers are those of the joiner that they are written as
-module _ (ns : List ℕ) (small : AllByRecursion (λ n. n < 2 ^ 32) ns) where
-  pub written_fault : joiner_fault (flat_map (le 4) ns) ≡ None
-  written_fault = joined_fault as_joiner RawBytes4 ns small (omega arith)
-
-  pub written_numbers : numbers (flat_map (le 4) ns) ≡ ns
-  written_numbers = joined_values as_joiner ns small (omega arith)

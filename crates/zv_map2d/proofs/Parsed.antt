@@ -1,27 +1,14 @@
--- Four lists that pass the checks of a parse are those of a map, and those of a map pass them.
-use Rattle.std.proofs.Common.{◌≡◌, ℕ, ◌+◌, ◌-◌, ◌<◌, ◌≤◌, true, ◌&&◌, nat_lt, List, [], ◌∷◌, ◌++◌, length, take, drop, map, slice_range, Some}
-use Rattle.std.proofs.Common.{None, refl, sym, ◌∙◌, ap, subst, arith, length-append, length-drop, length-take-le, zero-add}
+-- Four lists that pass the checks of a parse are those of a map.
+use Rattle.zv_map2d.proofs.Common.{◌≡◌, ℕ, ◌+◌, ◌-◌, ◌<◌, ◌≤◌, true, List, [], ◌∷◌, ◌++◌, length, drop, Some, None, refl, sym, ◌∙◌, ap, subst, arith}
+use Rattle.zv_map2d.proofs.Common.{length-drop, drop-map, drop_all, length-map, take-map, same_Some, IsTotalOrder, list_all, AllByRecursion, flat_map}
+use Rattle.zv_map2d.proofs.Common.{IsStrictlySortedBy, Ordering, keys_of, values_of, last_ascending, Lists, keys_ascend, lists_fault, pieces, Bytes, ascends}
+use Rattle.zv_map2d.proofs.Common.{Rows, IsFlat, IsRow, IsWell, ends_from, firsts, rows_of, slice_range, length-take-le, zip}
 use Rattle.std.proofs.lemmas.Bool.{and_parts}
 use Rattle.std.proofs.lemmas.Bool.Decides.{nat_tests}
-use Rattle.std.proofs.lemmas.List.{drop-map, drop_all, length-map, take-map}
 use Rattle.std.proofs.lemmas.List.Folds.{drop_split}
-use Rattle.std.proofs.lemmas.Option.{same_Some}
 use Rattle.std.proofs.lemmas.Slice.Zip.{firsts-zip, seconds-zip}
-use Rattle.std.specs.Cmp.{IsTotalOrder}
-use Rattle.std.specs.List.{list_all, AllByRecursion, flat_map, zip}
-use Rattle.std.specs.List.Sorted.{IsStrictlySortedBy}
-use Rattle.std.specs.Ordering.{is_lt}
-use Rattle.std.specs.declared.cmp.Ordering.{Ordering}
 use Rattle.zv_map.proofs.Ascents.{sorted_from_ascends}
-use Rattle.zv_map.specs.Maps.{keys_of, values_of}
-use Rattle.zv_map2d.specs.Causes.{last_ascending, Lists, keys_ascend, lists_fault}
-use Rattle.zv_var.specs.Format.{pieces}
-use Rattle.zv_map2d.specs.Keys.{Bytes, ascends, below_next}
-use Rattle.zv_map2d.specs.Rows.{Rows, IsFlat, IsRow, IsWell, ends_from, firsts, rows_of, seconds}
-use Rattle.zv_map2d.proofs.Flat.{pick_is, pieces_at_ends, values_as_many}
-use Rattle.zv_map2d.proofs.Seen.{ends_count, rows_count}
-
--- ---- numbers that ascend
+use Rattle.zv_map2d.proofs.Flat.{pick_is}
 
 ascends_first : (n e top : ℕ) (es : List ℕ) → last_ascending n (e ∷ es) ≡ Some top → (n < e) × (last_ascending e es ≡ Some top)
 ascends_first n e top es h = grind arith
@@ -33,8 +20,6 @@ last_above n top (e ∷ es) h = let t = ascends_first n e top es h in omega (ari
 -- the next end of an ascending joiner
 pub end_within : (n e top : ℕ) (rest es : List ℕ) → rest ≡ e ∷ es → last_ascending n rest ≡ Some top → e ≤ top
 end_within n e top rest es next h = last_above e top es (ascends_first n e top es (ap (last_ascending n) (sym next) ∙ h)).1
-
--- ---- from the checks to the map
 
 module _ (order : Bytes → Bytes → Ordering) where
   -- from place n on, the first keys, the ends and the pairs are those of the rows
@@ -57,38 +42,13 @@ module _ (order : Bytes → Bytes → Ordering) where
         let row : List (Bytes × Bytes) = slice_range xs n e in
         let size : length row ≡ e - n = length-take-le (e - n) (drop n xs) (omega (arith, last_above e (length xs) es a.1, length-drop n xs)) in
         let here : n + length row ≡ e = omega (arith, size, a.0) in
-        let keys : slice_range (keys_of xs) n e ≡ keys_of row =
-        ap (λ (z : List Bytes). take (e - n) z) (drop-map (λ p. p.0) n xs) ∙ take-map (λ p. p.0) (e - n) (drop n xs) in
+        let keys : slice_range (keys_of xs) n e ≡ keys_of row = simp (drop-map, take-map) in
         record {
           firsts_are = ap (λ (z : List Bytes). k ∷ z) rest.firsts_are;
           ends_are = rw here (ap (λ (z : List ℕ). e ∷ z) rest.ends_are);
           pairs_are = drop_split xs n e (omega (arith, a.0)) ∙ ap (λ (z : List (Bytes × Bytes)). row ++ z) rest.pairs_are;
           rows = ((omega (arith, size, a.0), subst (IsStrictlySortedBy order) keys (sorted_from_ascends total _ b.0)), rest.rows);
         }
-
-  -- ---- from the map to the checks
-
-  -- its ends ascend up to the number of its pairs
-  last_of_ends : (n : ℕ) (m : Rows) → AllByRecursion (IsRow order) m → last_ascending n (ends_from n m) ≡ Some (n + length (seconds m))
-  last_of_ends n [] all = ap Some (omega arith)
-  last_of_ends n (r ∷ m) all =
-      let h : 0 < length r.1 = all.0.0 in
-      let a : nat_lt n (n + length r.1) ≡ true = grind arith in
-      let e : n + length r.1 + length (seconds m) ≡ n + length (seconds (r ∷ m)) =
-      omega (arith, length-append (keys_of r.1) (seconds m), length-map r.1 (λ p. p.0)) in
-      rw a (last_of_ends (n + length r.1) m all.1 ∙ ap Some e)
-
-  ascends_from_sorted : (xs : List Bytes) → IsStrictlySortedBy order xs → ascends order xs ≡ true
-  unfolding IsStrictlySortedBy
-  ascends_from_sorted [] up = refl
-  ascends_from_sorted (x ∷ []) up = refl
-  ascends_from_sorted (x ∷ y ∷ ys) up = ap (λ (o : Ordering). is_lt o && below_next order y ys) up.0.0 ∙ ascends_from_sorted (y ∷ ys) up.1
-
-  rows_ascend : (m : Rows) → AllByRecursion (IsRow order) m → list_all (ascends order) (map keys_of (values_of m)) ≡ true
-  rows_ascend [] all = refl
-  rows_ascend (r ∷ m) all = rw (ascends_from_sorted (keys_of r.1) all.0.1) (rows_ascend m all.1)
-
--- ---- lists that are checked
 
 module _ (o0 o1 : Bytes → Bytes → Ordering) where
   -- four lists are those of the map, whose keys ascend
@@ -118,17 +78,3 @@ module _ (o0 o1 : Bytes → Bytes → Ordering) where
         },
         (subst (IsStrictlySortedBy o0) p.firsts_are (sorted_from_ascends t0 l.keys0 up.0), p.rows),
       )
-
-  -- the lists of a map have no fault
-  pub held_fault : (l : Lists) (m : Rows) → IsHeld l m → lists_fault o0 o1 l ≡ None
-  held_fault l m h =
-      let f = h.0 in
-      let long = ap length f.seconds_are in
-      let even0 : length l.keys0 ≡ length l.joiner = rows_count f ∙ sym (ends_count f) in
-      let even1 : length l.keys1 ≡ length l.values = long ∙ (sym (values_as_many m) ∙ sym (ap length f.values_are)) in
-      let last : last_ascending 0 l.joiner ≡ Some (length l.keys1) =
-      ap (last_ascending 0) f.ends_are ∙ (last_of_ends o1 0 m h.1.1 ∙ ap Some (zero-add (length (seconds m)) ∙ sym long)) in
-      let rows = pieces_at_ends keys_of (λ r. length-map r (λ p. p.0)) 0 m (seconds m) refl in
-      let ascend : keys_ascend o0 o1 l ≡ true =
-      rw (f.firsts_are, f.ends_are, f.seconds_are, ascends_from_sorted o0 (firsts m) h.1.0, rows) (rows_ascend o1 m h.1.1) in
-      grind (arith, nat_tests)

@@ -1,18 +1,10 @@
 -- What a search by a predicate found, at its place.
-use Rattle.std.proofs.Common.{◌≡◌, ℕ, ◌-◌, ◌<◌, List, [], ◌∷◌, length, map, take, drop, slice_range, Option, Some, None}
-use Rattle.std.proofs.Common.{Ok, Err, IfSome, option_map, sym, ◌∙◌, ap, subst, arith, inl, inr}
-use Rattle.std.proofs.lemmas.Bool.{cases_lt}
-use Rattle.std.proofs.lemmas.List.{drop-map, get_or-map, length-map, take-map}
-use Rattle.std.proofs.lemmas.Option.{slice_get-get_or}
+use Rattle.zv_map2d.proofs.Common.{◌≡◌, ℕ, ◌-◌, ◌<◌, List, [], length, map, take, drop, Option, Some, None, Ok, Err, option_map, sym, ◌∙◌, ap, subst, arith}
+use Rattle.zv_map2d.proofs.Common.{drop-map, length-map, take-map, slice_get, Ordering, Equal, keys_of, values_of, ComesToEqual, Found, IsGap, answer_at, Bytes}
+use Rattle.zv_map2d.proofs.Common.{nth, FoundBy, IsPicked, slice_range, IfSome, get_or-map}
 use Rattle.std.specs.Fn.{Mut}
-use Rattle.std.specs.List.{slice_get}
-use Rattle.std.specs.declared.cmp.Ordering.{Ordering}
-use Rattle.std.specs.declared.cmp.Ordering.TheVariants.{Equal}
-use Rattle.zv_map.specs.Maps.{keys_of, values_of}
-use Rattle.zv_ule.specs.Search.{ComesToEqual, Found, IsGap, IsHit, answer_at}
-use Rattle.zv_map2d.specs.Keys.{Bytes, nth}
-use Rattle.zv_map2d.specs.Predicates.{FoundBy, IsPicked}
 use denote.Ref.{Bor}
+use Rattle.std.proofs.lemmas.Option.{slice_get_cases}
 
 -- the answers of a range
 pub answers_range : (answer : Bytes → Ordering) (xs : List Bytes) (i j : ℕ) → slice_range (map answer xs) i j ≡ map answer (slice_range xs i j)
@@ -22,20 +14,8 @@ module _ (answer : Bytes → Ordering) (ks : List Bytes) where
   answer_is : (i : ℕ) → i < length ks → answer_at (map answer ks) i ≡ answer (nth ks i)
   answer_is i h = get_or-map answer ks i [] Equal h
 
-  hit_answers : (i : ℕ) → IsHit (map answer ks) i → answer (nth ks i) ≡ Equal
-  hit_answers i h = sym (answer_is i (omega (arith, h.within, length-map ks answer))) ∙ h.equal
-
   gap_answers : (i : ℕ) → IsGap (map answer ks) i → (j : ℕ) → j < length ks → answer (nth ks j) ≡ Equal → ⊥
-  gap_answers i gap j h e =
-      let there : answer_at (map answer ks) j ≡ Equal = answer_is j h ∙ e in
-      elim (cases_lt j i) [
-        | inl below ↦ cc (sym (gap.less j below) ∙ there)
-        | inr above ↦ cc (sym (gap.greater j above (omega (arith, h, length-map ks answer))) ∙ there)
-      ]
-
-none_within : {X : Type 0} (xs : List X) (i : ℕ) → i < length xs → slice_get xs i ≡ None → ⊥
-none_within [] i h e = omega (arith, h)
-none_within (x ∷ xs) i h e = cc (sym (slice_get-get_or (x ∷ xs) i x h) ∙ e)
+  gap_answers i gap j h e = grind (arith, gap.less j, gap.greater j, answer_is j h, length-map ks answer)
 
 module _ {X : Type 0} (m : List (Bytes × X)) where
   -- nothing was found
@@ -46,13 +26,14 @@ module _ {X : Type 0} (m : List (Bytes × X)) where
   -- what was found at a place
   pub one_by : (answer : Bytes → Ordering) (i : ℕ) (x : X) → Found (map answer (keys_of m)) (Ok i) → slice_get (values_of m) i ≡ Some x →
       FoundBy answer m (Some x)
-  one_by answer i x found there = (i, hit_answers answer (keys_of m) i found, there)
+  one_by answer i x found there =
+      (i, sym (answer_is answer (keys_of m) i (omega (arith, found.within, length-map (keys_of m) answer))) ∙ found.equal, there)
 
   -- or nothing
   pub some_by : {A : Type 0} (f : A → X) (answer : Bytes → Ordering) (i : ℕ) (o : Option A) → Found (map answer (keys_of m)) (Ok i) → i < length (values_of m) →
       option_map f o ≡ slice_get (values_of m) i → FoundBy answer m (option_map f o)
   some_by f answer i (Some x) found within there = one_by answer i (f x) found (sym there)
-  some_by f answer i None found within there = absurd (none_within (values_of m) i within (sym there))
+  some_by f answer i None found within there = absurd (grind (arith, slice_get_cases))
 
   module _ {F : Type 0} (g : Mut F (Bor Bytes × Unit {0}) Ordering) (p : F) where
     pub picked : (i : ℕ) (x : X) → ComesToEqual g p (nth (keys_of m) i) → slice_get (values_of m) i ≡ Some x → IsPicked g p m x

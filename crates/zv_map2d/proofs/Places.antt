@@ -1,28 +1,18 @@
 -- What is found and changed in a map in two levels, at the place of a pair of keys.
-use Rattle.std.proofs.Common.{◌≡◌, ℕ, zero, suc, ◌+◌, ◌<◌, ◌==◌, ◌&&◌, Bool, true, false, List, [], ◌∷◌, length, Option, Some, None}
-use Rattle.std.proofs.Common.{is_none, is_some, Result, refl, sym}
-use Rattle.std.proofs.Common.{◌∙◌, ap, arith}
+use Rattle.zv_map2d.proofs.Common.{◌≡◌, ℕ, suc, ◌+◌, ◌<◌, ◌==◌, ◌&&◌, Bool, false, List, [], ◌∷◌, length, Option, Some, None, is_none, is_some, Result, refl}
+use Rattle.zv_map2d.proofs.Common.{sym, ◌∙◌, ap, arith, set_split, length-map, slice_get-get_or, IsTotalOrder, remove, slice_get, at_within, look_up_at}
+use Rattle.zv_map2d.proofs.Common.{look_up_gap, rank_at, insert_entry_at, insert_entry_gap, without_key_at, without_key_gap, IsAt, values_of, look_up}
+use Rattle.zv_map2d.proofs.Common.{insert_entry, without_key, set_value_at, compared, IsGap, Rule, fits, fits_by, if_found, Bytes, Order, IsPlace, del_at}
+use Rattle.zv_map2d.proofs.Common.{find_at, fits_at, is_pair, put_at, Rows, IsWell, before, del, find, firsts, put, row, row_at, values, with_row, Map2d, Pair}
+use Rattle.zv_map2d.proofs.Common.{InRow, NewRow}
 use Rattle.std.proofs.lemmas.Bool.Decides.{nat_tests}
-use Rattle.std.proofs.lemmas.List.{set_split, length-map}
 use Rattle.std.proofs.lemmas.List.Edits.{length-remove}
-use Rattle.std.proofs.lemmas.Option.{slice_get-get_or}
-use Rattle.std.specs.Cmp.{IsTotalOrder}
-use Rattle.std.specs.List.{remove, slice_get}
 use Rattle.std.specs.Option.{unwrap_or}
 use Rattle.std.specs.Prelude.{cond}
-use Rattle.zv_map.proofs.Places.{at_within, by_place, look_up_at, look_up_gap, rank_at, insert_entry_at, insert_entry_gap, without_key_at, without_key_gap}
-use Rattle.zv_map.specs.Maps.{IsAt, keys_of, values_of, look_up, insert_entry, without_key, rank, set_value_at}
-use Rattle.zv_ule.specs.Search.{compared, IsGap}
-use Rattle.zv_map2d.specs.Fits.{Rule, fits, fits_by, if_found, place}
-use Rattle.zv_map2d.specs.Keys.{Bytes, Order}
 use Rattle.zv_map2d.specs.Outcomes.{Inserts, Puts}
 use Rattle.zv_map2d.specs.Refusals.{is_full}
-use Rattle.zv_map2d.specs.Places.{IsPlace, del_at, find_at, fits_at, is_pair, put_at}
-use Rattle.zv_map2d.specs.Rows.{Rows, IsWell, before, del, find, firsts, put, row, row_at, values, with_row}
-use Rattle.zv_map2d.specs.Views.{Map2d}
 use Rattle.zv_map2d.specs.declared.error.Map2dError.{Map2dError}
 use Rattle.zv_map2d.specs.declared.place.Place.{Place}
-use Rattle.zv_map2d.specs.declared.place.Place.TheVariants.{Pair, InRow, NewRow}
 use Rattle.zv_map2d.proofs.Flat.{get_pair, pair_within, row_split, row_well}
 
 -- what the place of a pair that is there is within
@@ -47,21 +37,7 @@ module _ (m : Rows) where
   pair_found (InRow i j) = refl
   pair_found (NewRow i) = refl
 
-same_test : (n k : ℕ) → suc n ≡ k → (n == 0) ≡ (k == 1)
-same_test zero k e = let one : (k == 1) ≡ true = grind (arith, nat_tests) in sym one
-same_test (suc n) k e =
-    let some : (suc n == 0) ≡ false = grind (arith, nat_tests) in
-    let more : (k == 1) ≡ false = grind (arith, nat_tests) in
-    some ∙ sym more
-
 module _ {order0 order1 : Order} (total0 : IsTotalOrder order0) (total1 : IsTotalOrder order1) (m : Rows) (k0 k1 : Bytes) where
-  -- each pair of keys has a place
-  pub place_of : IsWell order0 order1 m → (p : Place) × IsPlace order0 order1 m k0 k1 p
-  place_of well = by_place total0 k0 (firsts m) well.0 ((p : Place) × IsPlace order0 order1 m k0 k1 p)
-      (λ i at. by_place total1 k1 (keys_of (row_at m i)) (row_well order1 m i well.1 (at_within order0 k0 m i at)).1
-      ((p : Place) × IsPlace order0 order1 m k0 k1 p) (λ j hit. (Pair i j, (at, hit))) (λ j gap. (InRow i j, (at, gap))))
-      (λ i gap. (NewRow i, gap))
-
   -- the first key is missing
   no_row : (i : ℕ) → IsGap (compared order0 (firsts m) k0) i → row order0 m k0 ≡ []
   no_row i gap = ap (λ o. unwrap_or o []) (look_up_gap total0 k0 m i gap)
@@ -82,7 +58,7 @@ module _ {order0 order1 : Order} (total0 : IsTotalOrder order0) (total1 : IsTota
     with_row_at [] = without_key_at total0 k0 m i at
     with_row_at (p ∷ r) =
         let some : (suc (length r) == 0) ≡ false = grind (arith, nat_tests) in
-        insert_entry_at total0 k0 m (p ∷ r) i at ∙ ap (λ (b : Bool). cond b (remove m i) (set_value_at m i (p ∷ r))) (sym some)
+        rw some (insert_entry_at total0 k0 m (p ∷ r) i at)
 
   -- what is there, and what a change does there, at the place of the keys
   pub find_pair : (i j : ℕ) → IsPlace order0 order1 m k0 k1 (Pair i j) → find order0 order1 m k0 k1 ≡ slice_get (values_of (row_at m i)) j
@@ -109,34 +85,24 @@ module _ {order0 order1 : Order} (total0 : IsTotalOrder order0) (total1 : IsTota
 
   pub fits_is : (rule : Rule) (v : Bytes) (p : Place) → IsPlace order0 order1 m k0 k1 p → fits rule order0 order1 m k0 k1 v ≡ fits_at rule m k0 k1 v p
   fits_is rule v (Pair i j) h =
-      let at : place order0 order1 m k0 k1 ≡ before m i + j = ap (λ n. before m n + rank order1 (row order0 m k0) k1) (rank_at total0 k0 m i h.0)
-      ∙ (ap (λ r. before m i + rank order1 r k1) (row_is i h.0) ∙ ap (λ n. before m i + n) (rank_at total1 k1 (row_at m i) j h.1)) in
-      fits_by_is (λ old. rule.replaces (values m) (place order0 order1 m k0 k1) (length v)) rule v (Pair i j) h
-      ∙ ap (λ n. rule.replaces (values m) n (length v)) at
-  fits_is rule v (InRow i j) h = fits_by_is (λ old. rule.replaces (values m) (place order0 order1 m k0 k1) (length v)) rule v (InRow i j) h
-  fits_is rule v (NewRow i) h = fits_by_is (λ old. rule.replaces (values m) (place order0 order1 m k0 k1) (length v)) rule v (NewRow i) h
+      fits_by_is _ rule v (Pair i j) h ∙ rw (rank_at total0 k0 m i h.0, row_is i h.0, rank_at total1 k1 (row_at m i) j h.1) refl
+  fits_is rule v (InRow i j) h = fits_by_is _ rule v (InRow i j) h
+  fits_is rule v (NewRow i) h = fits_by_is _ rule v (NewRow i) h
 
   pub del_is : IsWell order0 order1 m → (p : Place) → IsPlace order0 order1 m k0 k1 p → del order0 order1 m k0 k1 ≡ del_at m p
   del_is well (Pair i j) h =
       let r = remove (row_at m i) j in
       let one : suc (length r) ≡ length (row_at m i) = omega (arith, length-remove (row_at m i) j (at_within order1 k1 (row_at m i) j h.1)) in
-      ap (λ z. with_row order0 m k0 (without_key order1 z k1)) (row_is i h.0) ∙ (ap (with_row order0 m k0) (without_key_at total1 k1 (row_at m i) j h.1)
-      ∙ (with_row_at i h.0 r ∙ ap (λ (b : Bool). cond b (remove m i) (set_value_at m i r)) (same_test (length r) (length (row_at m i)) one)))
+      let test : (length r == 0) ≡ (length (row_at m i) == 1) = grind (arith, nat_tests) in
+      rw (row_is i h.0, without_key_at total1 k1 (row_at m i) j h.1, with_row_at i h.0 r, test) refl
   del_is well (InRow i j) h =
       let w = at_within order0 k0 m i h.0 in
       let some = (row_well order1 m i well.1 w).0 in
       let test : (length (row_at m i) == 0) ≡ false = grind (arith, nat_tests) in
-      ap (λ z. with_row order0 m k0 (without_key order1 z k1)) (row_is i h.0) ∙ (ap (with_row order0 m k0) (without_key_gap total1 k1 (row_at m i) j h.1)
-      ∙ (with_row_at i h.0 (row_at m i) ∙ (ap (λ (b : Bool). cond b (remove m i) (set_value_at m i (row_at m i))) test
-      ∙ (set_split m i _ w ∙ sym (row_split m i w)))))
+      rw (row_is i h.0, without_key_gap total1 k1 (row_at m i) j h.1, with_row_at i h.0 (row_at m i), test) (set_split m i _ w ∙ sym (row_split m i w))
   del_is well (NewRow i) h = ap (λ r. with_row order0 m k0 (without_key order1 r k1)) (no_row i h) ∙ without_key_gap total0 k0 m i h
 
 -- what a put says, told at the place
-inserts_as : {A : Type 0} {bytes : A → Bytes} {old new : Map2d} {m z : Rows} {v w : Option Bytes} {takes says : Bool} (full : Bool)
-    {r : Result (Option A) Map2dError} → z ≡ m → w ≡ v → says ≡ takes → Inserts bytes old new m v takes (is_none v && full) r →
-    Inserts bytes old new z w says (is_none w && full) r
-inserts_as full a b c h = rw (a, b, c) h
-
 pub new_said : {A : Type 0} {bytes : A → Bytes} {old new : Map2d} {m : Rows} {o : Option Bytes} {takes full : Bool} {r : Result (Option A) Map2dError} →
     o ≡ None → Inserts bytes old new m None takes full r → Inserts bytes old new m o takes (is_none o && full) r
 new_said e h = rw e h
@@ -146,5 +112,5 @@ module _ {A : Type 0} (bytes : A → Bytes) {order0 order1 : Order} (total0 : Is
   pub put_said : (p : Place) (r : Result (Option A) Map2dError) → IsPlace order0 order1 old.rows k0 k1 p →
       Inserts bytes old new (put_at old.rows k0 k1 v p) (find_at old.rows p) (fits_at rule old.rows k0 k1 v p)
       (is_none (find_at old.rows p) && is_full old.rows) r → Puts bytes rule order0 order1 old new k0 k1 v r
-  put_said p r at h = inserts_as (is_full old.rows) (put_is total0 total1 old.rows k0 k1 v p at) (find_is total0 total1 old.rows k0 k1 p at)
-      (fits_is total0 total1 old.rows k0 k1 rule v p at) h
+  put_said p r at h =
+      rw (fits_is total0 total1 old.rows k0 k1 rule v p at, put_is total0 total1 old.rows k0 k1 v p at, find_is total0 total1 old.rows k0 k1 p at) h

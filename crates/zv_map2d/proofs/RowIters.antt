@@ -1,18 +1,13 @@
 -- The rows of a map, one after another.
-use Rattle.std.proofs.Common.{◌≡◌, ℕ, suc, ◌+◌, ◌-◌, ◌<◌, List, [], ◌∷◌, ◌++◌, length, map, sym, ◌∙◌, ap, arith}
-use Rattle.std.proofs.lemmas.List.{ext_get_or, get_or-map, length-map}
+use Rattle.zv_map2d.proofs.Common.{◌≡◌, ℕ, suc, ◌+◌, ◌-◌, ◌<◌, List, [], ◌∷◌, ◌++◌, length, map, sym, ◌∙◌, ap, arith, ext_get_or, length-map, Bytes, Rows, Row}
+use Rattle.zv_map2d.proofs.Common.{row_seen, rows_seen, get_or-map}
 use Rattle.std.proofs.lemmas.List.FromFn.{get_or-map-range_with_len, length-map-range_with_len, map-range_with_len_more}
 use Rattle.zv_map2d.proofs.Flat.{row_is}
-use Rattle.zv_map2d.specs.Keys.{Bytes}
-use Rattle.zv_map2d.specs.Rows.{Rows}
-use Rattle.zv_map2d.specs.Views.{Row, row_seen, rows_seen}
 
 module _ (m : Rows) where
   -- a row and the others
   pub seen_next : (i e : ℕ) → i < e → rows_seen m i (e - i) ≡ row_seen m i ∷ rows_seen m (i + 1) (e - (i + 1))
-  seen_next i e h =
-      let one : e - i ≡ suc (e - (i + 1)) = omega arith in
-      ap (rows_seen m i) one
+  seen_next i e h = let one : e - i ≡ suc (e - (i + 1)) = omega arith in ap (rows_seen m i) one
 
   -- the others and the last row
   pub seen_last : (i e : ℕ) → i < e → rows_seen m i (e - i) ≡ rows_seen m i (e - 1 - i) ++ row_seen m (e - 1) ∷ []
@@ -30,8 +25,7 @@ seen_all m =
     let pair : Row → Bytes × List (Bytes × Bytes) = λ c. (c.key, c.pairs) in
     let all = rows_seen m 0 (length m) in
     let many : length (map pair all) ≡ length m = length-map all pair ∙ seen_count m 0 (length m) in
-    let none : Bytes × List (Bytes × Bytes) = ([], []) in
-    ext_get_or none (map pair all) m many (λ i h.
+    ext_get_or ([], []) (map pair all) m many (λ i h.
     let within : i < length m = omega (arith, h, many) in
-    get_or-map pair all i (row_seen m 0) none (omega (arith, within, seen_count m 0 (length m)))
-    ∙ (ap pair (get_or-map-range_with_len (row_seen m) 0 (length m) i i (row_seen m 0) within (omega arith)) ∙ sym (row_is m i within)))
+    rw (get_or-map pair all i (row_seen m 0) ([], []) (omega (arith, within, seen_count m 0 (length m))))
+    (ap pair (get_or-map-range_with_len (row_seen m) 0 (length m) i i (row_seen m 0) within (omega arith)) ∙ sym (row_is m i within)))

@@ -1,22 +1,11 @@
 -- What the four lists of a map have.
-use Rattle.std.proofs.Common.{◌≡◌, ◌⊎◌, inl, inr, ℕ, suc, ◌+◌, ◌-◌, ◌<◌, ◌≤◌, Bool, List, [], length, get_or, slice_index, slice_range, take, zip}
-use Rattle.std.proofs.Common.{Result, refl, sym, ◌∙◌, ap, subst, arith, zero-add, ◌∷◌, drop, length-append, length-drop, length-take}
-use Rattle.std.proofs.lemmas.List.{length-map, take-append-drop, take-take, take_all}
-use Rattle.std.proofs.lemmas.Option.{slice_get-get_or}
-use Rattle.std.proofs.Common.{Some}
-use Rattle.std.specs.Cmp.{IsTotalOrder}
-use Rattle.std.specs.List.{AllByRecursion, flat_map, insert, remove, slice_get}
+use Rattle.zv_map2d.proofs.Common.{◌≡◌, ◌⊎◌, ℕ, suc, ◌+◌, ◌-◌, ◌<◌, ◌≤◌, Bool, List, [], length, get_or, slice_index, take, Result, sym, ◌∙◌, ap, arith}
+use Rattle.zv_map2d.proofs.Common.{zero-add, length-append, length-drop, length-take, Some, length-map, take-take, take_all, slice_get-get_or, IsTotalOrder}
+use Rattle.zv_map2d.proofs.Common.{AllByRecursion, flat_map, insert, remove, slice_get, compared_range, placed, IsAt, IsMap, keys_of, values_of, compared}
+use Rattle.zv_map2d.proofs.Common.{Found, IsGap, last_key, Bytes, Order, nth, Rows, firsts, seconds, IsFlat, IsRow, IsWell, before, row_at, rows_of, AreColumns}
+use Rattle.zv_map2d.proofs.Common.{Map2d, Row, Vector, row_seen, slice_range, zip}
 use Rattle.std.specs.Result.{MatchResult}
-use Rattle.std.specs.declared.cmp.Ordering.{Ordering}
-use Rattle.zv_map.proofs.Places.{compared_range, placed}
-use Rattle.zv_map.specs.Maps.{IsAt, IsMap, keys_of, values_of}
-use Rattle.zv_ule.specs.Search.{compared, Found, IsGap}
-use Rattle.zv_map2d.specs.Appending.{last_key}
-use Rattle.zv_map2d.specs.Keys.{Bytes, Order, nth}
-use Rattle.zv_map2d.specs.Rows.{Rows, firsts, seconds, values, ends, IsFlat, IsRow, IsWell, before, row_at, rows_of}
-use Rattle.zv_map2d.specs.Views.{AreColumns, Map2d, Row, Vector, row_seen}
-use Rattle.zv_map2d.proofs.Flat.{before_suc, before_within, end_at, get_pair, length_ends, length_pick, nth_pair, row_range, row_well, values_as_many, view_of}
-use Rattle.zv_map2d.proofs.Flat.{zip_parts}
+use Rattle.zv_map2d.proofs.Flat.{before_suc, before_within, end_at, get_pair, length_ends, length_pick, nth_pair, row_range, row_well, view_of, zip_parts}
 
 -- lists that are the same as those of a map
 pub same_lists : {k0s l0s : List Bytes} {es fs : List ℕ} {k1s l1s vs us : List Bytes} {m : Rows} → l0s ≡ k0s → fs ≡ es → l1s ≡ k1s → us ≡ vs →
@@ -26,24 +15,17 @@ same_lists a b c d s = record { firsts_are = a ∙ s.firsts_are; ends_are = b �
 -- the lists of the map that is seen
 pub seen : {u0 u1 u2 : Bool} {k0s : List Bytes} {es : List ℕ} {k1s vs : List Bytes} {a b c d : Vector} {m : Map2d} →
     record { rows = rows_of k0s es k1s vs; keys0 = a; joiner = b; keys1 = c; values = d } ≡ m → AreColumns u0 u1 u2 k0s es k1s vs → IsFlat k0s es k1s vs m.rows
-seen {k0s = k0s} {es = es} {k1s = k1s} {vs = vs} same h = subst (λ (v : Map2d). IsFlat k0s es k1s vs v.rows) same h.flat
+seen same h = rw (← same) h.flat
 
 -- lists of a map are columns where others were
 pub columns : {u0 u1 u2 : Bool} {k0s l0s : List Bytes} {es fs : List ℕ} {k1s l1s vs us : List Bytes} {m : Rows} → AreColumns u0 u1 u2 k0s es k1s vs →
     IsFlat l0s fs l1s us m → AreColumns u0 u1 u2 l0s fs l1s us
-columns {l0s = k0s} {fs = es} {l1s = k1s} {us = vs} {m = m} old flat = record {
-  keys0 = old.keys0;
-  keys1 = old.keys1;
-  values = old.values;
-  flat = subst (IsFlat k0s es k1s vs) (sym (view_of k0s es k1s vs m flat)) flat;
-}
+columns old flat = record { keys0 = old.keys0; keys1 = old.keys1; values = old.values; flat = rw (view_of flat) flat }
 
 -- lists of a well formed map are those of the map that they stand for
 pub views : (order0 order1 : Order) {k0s : List Bytes} {es : List ℕ} {k1s vs : List Bytes} {m : Rows} → IsFlat k0s es k1s vs m → IsWell order0 order1 m →
     IsFlat k0s es k1s vs (rows_of k0s es k1s vs) × IsWell order0 order1 (rows_of k0s es k1s vs)
-views order0 order1 {k0s = k0s} {es = es} {k1s = k1s} {vs = vs} {m = m} flat well =
-    let same : m ≡ rows_of k0s es k1s vs = sym (view_of k0s es k1s vs m flat) in
-    (subst (IsFlat k0s es k1s vs) same flat, subst (IsWell order0 order1) same well)
+views order0 order1 flat well = rw (view_of flat) (flat, well)
 
 -- no lists are those of the map of no pairs
 pub none : {k0s : List Bytes} {es : List ℕ} {k1s vs : List Bytes} → k0s ≡ [] → es ≡ [] → k1s ≡ [] → vs ≡ [] → IsFlat k0s es k1s vs []
@@ -57,29 +39,23 @@ before_mono m i j h =
 
 -- an insertion makes a list one longer, and a removal none
 pub one_more : (xs ys : List Bytes) (i : ℕ) (x : Bytes) → ys ≡ insert xs i x → length ys ≤ length xs + 1
-one_more xs ys i x e = omega (
-  arith,
-  ap length e,
-  length-append (take i xs) (x ∷ drop i xs),
-  length-append (take i xs) (drop i xs),
-  ap length (take-append-drop i xs),
-)
+one_more xs ys i x e = rw e (simp (length-append, length-take, length-drop) (omega arith))
 
 pub no_more : (xs ys : List Bytes) (i : ℕ) → ys ≡ remove xs i → length ys ≤ length xs + 0
-no_more xs ys i e = omega (arith, ap length e, length-append (take i xs) (drop (suc i) xs), length-take i xs, length-drop (suc i) xs)
+no_more xs ys i e = rw e (simp (length-append, length-take, length-drop) (omega arith))
 
 -- as many second keys as the list has
 pub few_more : {u0 u1 u2 : Bool} {k0s l0s : List Bytes} {es fs : List ℕ} {k1s l1s vs us : List Bytes} (n : ℕ) → AreColumns u0 u1 u2 k0s es k1s vs →
     AreColumns u0 u1 u2 l0s fs l1s us → length l1s ≤ length k1s + n →
     length (seconds (rows_of l0s fs l1s us)) ≤ length (seconds (rows_of k0s es k1s vs)) + n
-few_more {k0s = k0s} {l0s = l0s} {es = es} {fs = fs} {k1s = k1s} {l1s = l1s} {vs = vs} {us = us} n before after h =
-    let old : length (seconds (rows_of k0s es k1s vs)) ≡ length k1s = sym (ap length before.flat.seconds_are) in
-    let new : length (seconds (rows_of l0s fs l1s us)) ≡ length l1s = sym (ap length after.flat.seconds_are) in
-    omega (arith, h, old, new)
+few_more n before after h = omega (arith, h, ap length before.flat.seconds_are, ap length after.flat.seconds_are)
 
 module _ {k0s : List Bytes} {es : List ℕ} {k1s vs : List Bytes} {m : Rows} (s : IsFlat k0s es k1s vs m) where
   pub rows_count : length k0s ≡ length m
   rows_count = ap length s.firsts_are ∙ length-map m (λ r. r.0)
+
+  pub seconds_count : length k1s ≡ length (seconds m)
+  seconds_count = ap length s.seconds_are
 
   pub ends_count : length es ≡ length m
   ends_count = ap length s.ends_are ∙ length_ends 0 m
@@ -90,19 +66,18 @@ module _ {k0s : List Bytes} {es : List ℕ} {k1s vs : List Bytes} {m : Rows} (s 
 
   pub row_within : (i : ℕ) → i < length m → (before m i ≤ before m (suc i)) × (before m (suc i) ≤ length k1s) × (before m (suc i) ≤ length vs)
   row_within i h =
-      let all : length k1s ≡ length (seconds m) = ap length s.seconds_are in
-      let same : length vs ≡ length (seconds m) = ap length s.values_are ∙ values_as_many m in
-      let top = before_within m (suc i) in
-      (omega (arith, before_suc m i h), omega (arith, all, top, length_pick (λ p. p.0) m), omega (arith, same, top, length_pick (λ p. p.0) m))
+      let top = before_within m (suc i) in (
+        omega (arith, before_suc m i h),
+        omega (arith, ap length s.seconds_are, top, length_pick (λ p. p.0) m),
+        omega (arith, ap length s.values_are, top, length_pick (λ p. p.1) m),
+      )
 
   -- where pair j of row i stands, or would, in the second keys and in the values
   pub pair_stands : (i j at : ℕ) → i < length m → j < length (row_at m i) → at ≡ before m i + j → (at < length k1s) × (at < length vs)
-  pair_stands i j at h k e =
-      let w = row_within i h in (omega (arith, w.1, before_suc m i h, e, k), omega (arith, w.2, before_suc m i h, e, k))
+  pair_stands i j at h k e = let w = row_within i h in (omega (arith, w.1, before_suc m i h, e, k), omega (arith, w.2, before_suc m i h, e, k))
 
   pub pair_goes : (i j at : ℕ) → i < length m → j ≤ length (row_at m i) → at ≡ before m i + j → (at ≤ length k1s) × (at ≤ length vs)
-  pair_goes i j at h k e =
-      let w = row_within i h in (omega (arith, w.1, before_suc m i h, e, k), omega (arith, w.2, before_suc m i h, e, k))
+  pair_goes i j at h k e = let w = row_within i h in (omega (arith, w.1, before_suc m i h, e, k), omega (arith, w.2, before_suc m i h, e, k))
 
   -- where a row starts, or would
   pub row_goes : (i at : ℕ) → at ≡ before m i → (at ≤ length k1s) × (at ≤ length vs)
@@ -132,8 +107,7 @@ module _ {k0s : List Bytes} {es : List ℕ} {k1s vs : List Bytes} {m : Rows} (s 
   -- what a search of the first keys found
   pub row_placed : {order : Order} → IsTotalOrder order → (key : Bytes) (r : Result ℕ ℕ) → IsMap order m → Found (compared order k0s key) r →
       MatchResult r (IsAt (compared order (firsts m) key)) (IsGap (compared order (firsts m) key))
-  row_placed {order} total key r up found =
-      placed total key (firsts m) up r (subst (λ (xs : List Bytes). Found (compared order xs key) r) s.firsts_are found)
+  row_placed total key r up found = placed total key (firsts m) up r (rw (← s.firsts_are) found)
 
   -- which is a search of all first keys
   pub all_answers : (order : Order) (key : Bytes) (end : ℕ) → end ≡ length m → slice_range (compared order k0s key) 0 end ≡ compared order k0s key
@@ -144,14 +118,11 @@ module _ {k0s : List Bytes} {es : List ℕ} {k1s vs : List Bytes} {m : Rows} (s 
       start ≡ before m i → end ≡ before m (suc i) → Found (slice_range (compared order k1s key) start end) r →
       MatchResult r (IsAt (compared order (keys_of (row_at m i)) key)) (IsGap (compared order (keys_of (row_at m i)) key))
   pair_placed {order} total key r i start end all h a b found =
-      let same : slice_range (compared order k1s key) start end ≡ compared order (keys_of (row_at m i)) key =
-      compared_range order key k1s start end ∙ ap (λ (xs : List Bytes). compared order xs key) (row_range_is i start end h a b) in
-      placed total key (keys_of (row_at m i)) (row_well order m i all h).1 r (subst (λ (answers : List Ordering). Found answers r) same found)
+      placed total key (keys_of (row_at m i)) (row_well order m i all h).1 r
+      (rw (← row_range_is i start end h a b, ← compared_range order key k1s start end) found)
 
   pub in_range : (i start end : ℕ) → i < length m → start ≡ before m i → end ≡ before m (suc i) → (length k1s < end) ⊎ (end < start) → ⊥
-  in_range i start end h a b outside =
-      let w = row_within i h in
-      elim outside [ inl l ↦ omega (arith, w.1, a, b, l) | inr l ↦ omega (arith, w.0, a, b, l) ]
+  in_range i start end h a b outside = grind (arith, row_within i h)
 
   -- a row that is seen, as what its key has
   pub row_seen_is : (i : ℕ) (c : Row) → i < length k0s → c ≡ row_seen m i → slice_get (values_of m) i ≡ Some c.pairs
@@ -174,7 +145,3 @@ module _ {k0s : List Bytes} {es : List ℕ} {k1s vs : List Bytes} {m : Rows} (s 
   -- from a row with a pair on, each end can be one less
   pub ends_some : (i : ℕ) → i < length m → 0 < length (row_at m i) → (k : ℕ) → i ≤ k → k < length es → 0 < slice_index es k
   ends_some i h some k a l = omega (arith, end_is k (omega (arith, l, ends_count)), before_suc m i h, before_mono m (suc i) (suc k) (omega arith))
-
--- the lists of a map are its own
-pub own : (m : Rows) → IsFlat (firsts m) (ends m) (seconds m) (values m) m
-own m = record { firsts_are = refl; ends_are = refl; seconds_are = refl; values_are = refl }

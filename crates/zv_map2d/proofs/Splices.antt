@@ -1,18 +1,14 @@
 -- What a change of some rows, or of one row's pairs, does to the four lists of a map. Each change is a splice: none or one element stands in place
 -- of none or one.
-use Rattle.std.proofs.Common.{◌≡◌, ℕ, zero, suc, ◌+◌, ◌-◌, ◌<◌, ◌≤◌, List, [], ◌∷◌, ◌++◌, length, get_or, set, take, drop, map, refl, sym, ◌∙◌, ap}
-use Rattle.std.proofs.Common.{arith, length-append, zero-add, add-suc}
+use Rattle.zv_map2d.proofs.Common.{length-take, length-drop, ◌≡◌, ℕ, zero, suc, ◌+◌, ◌-◌, ◌<◌, ◌≤◌, List, [], ◌∷◌, ◌++◌, length, get_or, set, take, drop, map}
+use Rattle.zv_map2d.proofs.Common.{refl, sym, ◌∙◌, ap, arith, length-append, zero-add, add-suc, map-append, map-id, take-map, drop-map, take-append-drop}
+use Rattle.zv_map2d.proofs.Common.{take-append-le, drop-append-le, take_at, drop_at, length-set, set_split, length-map, insert, remove, splice, keys_of}
+use Rattle.zv_map2d.proofs.Common.{values_of, set_value_at, Bytes, nth, Rows, ends_from, IsFlat, before, row_at, shift_from, append_assoc, seconds}
 use Rattle.std.proofs.Math.Seq.{map-set_same, take-append-add, drop-append-add}
 use Rattle.std.proofs.Math.ListN.{get_or-map}
 use Rattle.std.proofs.lemmas.List.Concat.{flat_map-append}
 use Rattle.std.proofs.lemmas.List.Edits.{length-insert, length-remove}
-use Rattle.std.proofs.lemmas.List.{append_assoc, map-append, map-id, take-map, drop-map, take-append-drop, take-append-le, drop-append-le, take_at, drop_at}
-use Rattle.std.proofs.lemmas.List.{length-set, set_split, length-map}
-use Rattle.std.specs.List.{flat_map, insert, remove, splice}
-use Rattle.zv_map.specs.Maps.{keys_of, values_of, set_value_at}
-use Rattle.zv_map2d.specs.Keys.{Bytes, nth}
-use Rattle.zv_map2d.specs.Rows.{Rows, ends_from, IsFlat, before, row_at, shift_from}
-use Rattle.zv_map2d.proofs.Flat.{pick, length_pick, before_suc, before_within, pair_within}
+use Rattle.zv_map2d.proofs.Flat.{pick, length_pick, before_next, before_suc, before_within, pair_within}
 
 -- ---- splices
 
@@ -31,13 +27,12 @@ keys-set_value_at m i x = map-set_same (λ e. e.0) m i (nth (keys_of m) i, x) ([
 
 -- ---- the pairs
 
--- before a later row
-before_next : (q : Bytes × List (Bytes × Bytes)) (m : Rows) (i : ℕ) → before (q ∷ m) (suc i) ≡ length q.1 + before m i
-before_next q m i = length-append q.1 (flat_map (λ r. r.1) (take i m))
-
 -- a row starts within all pairs, or after them
 pub start_within : (g : Bytes × Bytes → Bytes) (m : Rows) (i : ℕ) → before m i ≤ length (pick g m)
 start_within g m i = omega (arith, before_within m i, length_pick g m)
+
+pub row_starts : (m : Rows) (i : ℕ) → before m i ≤ length (seconds m)
+row_starts m i = start_within (λ q. q.0) m i
 
 -- other rows
 pick_rows : (g : Bytes × Bytes → Bytes) (m : Rows) (i j : ℕ) (new : Rows) → pick g (splice m i j new) ≡ splice (pick g m) (before m i) (before m j) (pick g new)
@@ -70,28 +65,19 @@ pick_same g (q ∷ m) (suc i) r e = ap (λ z. map g q.1 ++ z) (pick_same g m i r
 -- a more and b less takes those that are counted from c to those from d
 ends_moved : (a b c d : ℕ) → c + a ≡ d + b → (m : Rows) → ends_from d m ≡ map (λ e. e + a - b) (ends_from c m)
 ends_moved a b c d e [] = refl
-ends_moved a b c d e (r ∷ m) =
-    let here : d + length r.1 ≡ c + length r.1 + a - b = omega (arith, e) in
-    let rest = ends_moved a b (c + length r.1) (d + length r.1) (omega (arith, e)) m in
-    λ i. here i ∷ rest i
+ends_moved a b c d e (r ∷ m) = grind (arith, ends_moved a b (c + length r.1) (d + length r.1) (omega (arith, e)) m)
 
 -- another row in place of row i
 ends_row : (a b n : ℕ) (m : Rows) (i : ℕ) (r : List (Bytes × Bytes)) → i < length m → length (row_at m i) + a ≡ length r + b →
     ends_from n (set_value_at m i r) ≡ shift_from a b i (ends_from n m)
 ends_row a b n [] i r h e = absurd (omega arith)
-ends_row a b n (q ∷ m) zero r h e =
-    let here : n + length r ≡ n + length q.1 + a - b = omega (arith, e) in
-    let rest = ends_moved a b (n + length q.1) (n + length r) (omega (arith, e)) m in
-    λ i. here i ∷ rest i
+ends_row a b n (q ∷ m) zero r h e = grind (arith, ends_moved a b (n + length q.1) (n + length r) (omega (arith, e)) m)
 ends_row a b n (q ∷ m) (suc i) r h e = ap (λ z. (n + length q.1) ∷ z) (ends_row a b (n + length q.1) m i r (omega arith) e)
 
 -- a new row of one pair
 ends_new : (n : ℕ) (m : Rows) (i : ℕ) (k : Bytes) (p : Bytes × Bytes) → i ≤ length m →
     ends_from n (insert m i (k, p ∷ [])) ≡ insert (shift_from 1 0 i (ends_from n m)) i (n + before m i + 1)
-ends_new n m zero k p h =
-    let here : n + length (p ∷ []) ≡ n + before m 0 + 1 = omega arith in
-    let rest = ends_moved 1 0 n (n + length (p ∷ [])) (omega arith) m in
-    λ i. here i ∷ rest i
+ends_new n m zero k p h = grind (arith, ends_moved 1 0 n (n + length (p ∷ [])) (omega arith) m)
 ends_new n [] (suc i) k p h = absurd (omega arith)
 ends_new n (q ∷ m) (suc i) k p h =
     let at : n + length q.1 + before m i ≡ n + before (q ∷ m) (suc i) = omega (arith, before_next q m i) in
@@ -106,13 +92,7 @@ ends_old n (q ∷ m) (suc i) h one = ap (λ z. (n + length q.1) ∷ z) (ends_old
 
 -- as many as before
 pub shift_count : (a b i : ℕ) (xs : List ℕ) → length (shift_from a b i xs) ≡ length xs
-shift_count a b i xs = omega (
-  arith,
-  length-append (take i xs) (map (λ e. e + a - b) (drop i xs)),
-  length-map (drop i xs) (λ e. e + a - b),
-  length-append (take i xs) (drop i xs),
-  ap length (take-append-drop i xs),
-)
+shift_count a b i xs = simp (length-append, length-map, length-take, length-drop) (omega arith)
 
 -- ---- the four lists
 
@@ -176,8 +156,7 @@ module _ {k0s : List Bytes} {es : List ℕ} {k1s vs : List Bytes} {m : Rows} (fl
         let there : p < length vs = omega (arith, e, pair_within (λ q. q.1) m i h j k, ap length flat.values_are) in
         let many : length (row_at m i) + 0 ≡ length r + 0 = omega (arith, length-set (row_at m i) j (nth (keys_of (row_at m i)) j, v)) in
         let none : (e : ℕ) → e + 0 - 0 ≡ e = λ e. omega arith in
-        let same : shift_from 0 0 i es ≡ es = (λ t. take i es ++ map (λ e. none e t) (drop i es)) ∙ (ap (λ z. take i es ++ z) (map-id (drop i es))
-        ∙ take-append-drop i es) in
+        let same : shift_from 0 0 i es ≡ es = simp (none, map-id, take-append-drop) in
         record {
           firsts_are = flat.firsts_are ∙ sym (keys-set_value_at m i r);
           ends_are = sym same ∙ (ap (shift_from 0 0 i) flat.ends_are ∙ sym (ends_row 0 0 0 m i r h many));
@@ -196,8 +175,16 @@ shifted a b [] [] (suc i) e low high = refl
 shifted a b [] (y ∷ ys) i e low high = absurd (omega arith)
 shifted a b (x ∷ xs) [] i e low high = absurd (omega arith)
 shifted a b (x ∷ xs) (y ∷ ys) zero e low high =
-    let rest = shifted a b xs ys zero (omega arith) (λ k l. absurd (omega arith)) (λ k c d. high (suc k) (omega arith) (omega arith)) in
-    λ j. high 0 (omega arith) (omega arith) j ∷ rest j
+    grind (
+      arith,
+      high 0 (omega arith) (omega arith),
+      shifted a b xs ys zero (omega arith) (λ k l. absurd (omega arith))
+          (λ k c d. high (suc k) (omega arith) (omega arith)),
+    )
 shifted a b (x ∷ xs) (y ∷ ys) (suc i) e low high =
-    let rest = shifted a b xs ys i (omega arith) (λ k l. low (suc k) (omega arith)) (λ k c d. high (suc k) (omega arith) (omega arith)) in
-    λ j. low 0 (omega arith) j ∷ rest j
+    grind (
+      arith,
+      low 0 (omega arith),
+      shifted a b xs ys i (omega arith) (λ k l. low (suc k) (omega arith))
+          (λ k c d. high (suc k) (omega arith) (omega arith)),
+    )

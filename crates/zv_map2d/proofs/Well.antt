@@ -1,21 +1,13 @@
 -- Changes keep a map well formed.
-use Rattle.std.proofs.Common.{◌≡◌, ◌<◌, List, [], ◌∷◌, length, Option, Some, None, Result, Ok, Err, OnOk, OnErr, sym, subst, arith}
+use Rattle.zv_map2d.proofs.Common.{◌≡◌, ◌<◌, List, [], ◌∷◌, length, Option, Some, None, Result, Ok, Err, OnOk, OnErr, sym, subst, arith, IsTotalOrder}
+use Rattle.zv_map2d.proofs.Common.{AllByRecursion, Ordering, IsMap-insert_entry, IsMap-without_key, values_with, values_without, IsMap, values_of, look_up}
+use Rattle.zv_map2d.proofs.Common.{insert_entry, Bytes, Order, Rows, IsWell, row, put, with_row, del, Map2d, IfSome}
 use Rattle.std.proofs.lemmas.List.Elements.{All-from_recursion}
 use Rattle.std.proofs.lemmas.Map.Views.{IfSome-lookup_from_All}
 use Rattle.std.specs.BTreeMap.{is_at}
-use Rattle.std.specs.Cmp.{IsTotalOrder}
-use Rattle.std.specs.List.{AllByRecursion}
 use Rattle.std.specs.List.Sorted.{IsStrictlySortedBy}
-use Rattle.std.specs.Option.{IfSome, unwrap_or}
-use Rattle.std.specs.Ordering.{match_ordering}
-use Rattle.std.specs.declared.cmp.Ordering.{Ordering}
-use Rattle.std.specs.declared.cmp.Ordering.TheVariants.{Less, Equal, Greater}
-use Rattle.zv_map.proofs.Places.{IsMap-insert_entry, IsMap-without_key, values_with, values_without}
-use Rattle.zv_map.specs.Maps.{IsMap, values_of, look_up, insert_entry}
-use Rattle.zv_map2d.specs.Keys.{Bytes, Order}
+use Rattle.std.specs.Option.{unwrap_or}
 use Rattle.zv_map2d.specs.Room.{IsSameMap}
-use Rattle.zv_map2d.specs.Rows.{Rows, IsWell, row, put, with_row, del}
-use Rattle.zv_map2d.specs.Views.{Map2d}
 
 module _ {X : Type 0} (Q : X → Type 0) where
   -- what holds of what each entry has holds of the values, and back
@@ -41,10 +33,7 @@ row_holds order Q m k all none =
 -- a list with a key isn't empty
 insert_entry_some : {X : Type 0} (order : Bytes → Bytes → Ordering) (m : List (Bytes × X)) (k : Bytes) (x : X) → 0 < length (insert_entry order m k x)
 insert_entry_some order [] k x = omega arith
-insert_entry_some order (e ∷ m) k x =
-    let by : (r : Ordering) → 0 < length (match_ordering r ((k, x) ∷ e ∷ m) ((e.0, x) ∷ m) (e ∷ insert_entry order m k x)) =
-    elim [ Less ↦ omega arith | Equal ↦ omega arith | Greater ↦ omega arith ] in
-    by (order k e.0)
+insert_entry_some order (e ∷ m) k x = grind arith
 
 module _ {order0 order1 : Bytes → Bytes → Ordering} (total0 : IsTotalOrder order0) (total1 : IsTotalOrder order1) (m : Rows) (k0 : Bytes)
     (well : IsWell order0 order1 m) where

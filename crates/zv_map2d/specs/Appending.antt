@@ -1,8 +1,7 @@
 -- Pairs at the end of a map, and a map that is made of pairs.
-use Rattle.std.specs.Prelude.{◌≡◌, ◌-◌, ◌==◌, ◌||◌, ◌&&◌, Bool, true, false, not, List, []}
+use Rattle.std.specs.Prelude.{◌-◌, ◌==◌, ◌||◌, ◌&&◌, Bool, true, false, not, List, []}
 use Rattle.std.specs.Prelude.{◌∷◌, length, map, Option, Some, None, is_none, cond}
 use Rattle.std.specs.Prelude.{if◌then◌else◌}
-use Rattle.std.specs.Cmp.{IsTotalOrder}
 use Rattle.std.specs.Option.{option_or}
 use Rattle.std.specs.Ordering.{is_eq, is_gt, match_ordering}
 use Rattle.zv_map.specs.Maps.{keys_of}
@@ -51,12 +50,6 @@ abbrev pub last_given : Order → Order → List Triple → Bytes → Bytes → 
 last_given order0 order1 [] k0 k1 = None
 last_given order0 order1 (t ∷ ts) k0 k1 = option_or (last_given order0 order1 ts k0 k1)
     (cond (is_eq (order0 t.0 k0) && is_eq (order1 t.1 k1)) (Some t.2) None)
-
--- a map that is made of triples has for each pair of keys the last value that was given
-abbrev pub KeepsLast : Type 0
-KeepsLast = (order0 order1 : Order) → IsTotalOrder order0 → IsTotalOrder order1 →
-    (ts : List Triple) (k0 k1 : Bytes) →
-    find order0 order1 (put_all order0 order1 [] ts) k0 k1 ≡ last_given order0 order1 ts k0 k1
 
 -- why the first of the puts that is refused is: it doesn't fit, or it is new in a full map
 abbrev pub first_refusal : Rule → Order → Order → Rows → List Triple → Option Map2dError

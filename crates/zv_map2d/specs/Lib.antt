@@ -2,15 +2,11 @@ pub mod Appending
 pub mod Borrowed
 pub mod Bounds
 pub mod Causes
-pub mod Changes
-pub mod FiniteMap
+pub mod Elements
 pub mod Fits
 pub mod Frame
 pub mod Image
-pub mod ImageRows
 pub mod Keys
-pub mod Laws
-pub mod Locales
 pub mod Outcomes
 pub mod Places
 pub mod Predicates

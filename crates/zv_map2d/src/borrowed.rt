@@ -89,6 +89,7 @@ impl<'a, K0: ZvOrd, K1: ZvOrd, V: ZvKind> ZeroMap2dBorrowed<'a, K0, K1, V> {
 
     /// How many first keys there are. It reads a count.
     #[inline]
+    #[tactic(auto, using(crate::proofs::Seen::rows_count))]
     pub fn rows(&self) -> usize
         ensures { result ≡ length (rows_in self.now) }
     {
@@ -97,6 +98,7 @@ impl<'a, K0: ZvOrd, K1: ZvOrd, V: ZvKind> ZeroMap2dBorrowed<'a, K0, K1, V> {
 
     /// How many pairs of keys there are. It reads a count.
     #[inline]
+    #[tactic(auto, using(crate::proofs::Seen::seconds_count))]
     pub fn len(&self) -> usize
         ensures { result ≡ length (seconds (rows_in self.now)) }
     {
@@ -113,6 +115,7 @@ impl<'a, K0: ZvOrd, K1: ZvOrd, V: ZvKind> ZeroMap2dBorrowed<'a, K0, K1, V> {
 
     /// Where the row's pairs end among all pairs.
     #[inline(always)]
+    #[tactic(auto, using(crate::proofs::Seen::ends_count, crate::proofs::Seen::end_is))]
     pub(crate) fn row_end(&self, row: usize) -> usize
         requires { row < length (rows_in self.now) }
         ensures { result ≡ before (rows_in self.now) (suc row) }
@@ -205,6 +208,7 @@ impl<'a, K0: ZvOrd, K1: ZvOrd, V: ZvKind> ZeroMap2dBorrowed<'a, K0, K1, V> {
 
     /// The value of a pair of the row.
     #[inline(always)]
+    #[tactic(auto, using(crate::proofs::Flat::row_ends))]
     pub(crate) fn value_at(&self, row: usize, pair: usize) -> Option<VarRef<'a, V>>
         requires row { row < length (rows_in self.now) }
         requires pair { pair < length (row_at (rows_in self.now) row) }

@@ -5,7 +5,7 @@ ghost use Rattle.zv_ule.specs.Bytes.{le};
 ghost use Rattle.std.specs.Result.{MatchResult};
 ghost use Rattle.zv_ule.specs.Search.{IsGap, compared};
 ghost use Rattle.zv_map.specs.Maps.{IsAt, keys_of};
-ghost use Rattle.zv_map2d.specs.FiniteMap.{AreElements};
+ghost use Rattle.zv_map2d.specs.Elements.{AreElements};
 ghost use Rattle.zv_map2d.specs.Rows.{IsWell, before, ends, firsts, row_at, seconds};
 ghost use Rattle.zv_map2d.specs.Rows.{values};
 ghost use Rattle.zv_map2d.specs.Views.{KeepsRoom, ReadsAs, bytes_of, no_bytes, parts_of};
@@ -160,6 +160,7 @@ impl<
     }
 
     /// The place among all pairs of a pair of the row, or of the row's end.
+    #[tactic(auto, using(crate::proofs::Flat::row_ends))]
     pub(crate) fn pair_start(&self, row: usize, pair: usize) -> usize
         requires row { row < length self.now.rows }
         requires pair { pair ≤ length (row_at self.now.rows row) }

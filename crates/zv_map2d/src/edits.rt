@@ -264,6 +264,7 @@ impl<
     }
 
     /// Puts a new row of one pair, which is taken, into the map.
+    #[tactic(auto, using(crate::proofs::Splices::row_starts))]
     fn add_row<Q0: ZvArg<K0>, Q1: ZvArg<K1>, R: ZvArg<V>>(
         &mut self,
         row: usize,

@@ -18,7 +18,6 @@ mod edits;
 pub mod error;
 pub mod image;
 mod joiner;
-pub mod laws;
 pub mod map;
 mod order;
 mod parse;

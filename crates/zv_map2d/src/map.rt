@@ -4,7 +4,7 @@ ghost use Rattle.std.specs.Prelude.{IfOk, IfErr, OnErr, OnOk, is_none, is_ok, is
 ghost use Rattle.std.specs.Prelude.{nat_lt, option_map};
 ghost use Rattle.std.specs.List.{flat_map};
 ghost use Rattle.zv_ule.specs.Bytes.{le};
-ghost use Rattle.zv_map2d.specs.FiniteMap.{AreElements};
+ghost use Rattle.zv_map2d.specs.Elements.{AreElements};
 ghost use Rattle.zv_map2d.specs.Fits.{fits, rule_of};
 ghost use Rattle.zv_map2d.specs.Room.{HasRoomFor, IsOwned, IsSameMap, SpendsFor};
 ghost use Rattle.zv_map2d.specs.Refusals.{RefusedUnless, is_full};

@@ -7,8 +7,8 @@ use Rattle.zv_ule.specs.Bytes.{IsBytes}
 use Rattle.zv_ule.specs.laws.OptionSpellings.{zero_bytes}
 use Rattle.zv_map2d.specs.Image.{Stands, canon}
 use Rattle.zv_map2d.specs.Rows.{Rows}
-use Rattle.zv_map2d.proofs.Kept.{canon_again, same_canon}
-use Rattle.zv_map2d.proofs.OnlyImage.{one_image}
+use Rattle.zv_map2d_laws.proofs.Kept.{canon_again, same_canon}
+use Rattle.zv_map2d_laws.proofs.OnlyImage.{one_image}
 use Rattle.zv_tool.specs.Answers.{answers}
 use Rattle.zv_tool.specs.Laws.{SameEdits, WrittenBack}
 use Rattle.zv_tool.specs.Output.{image_line}

@@ -6,10 +6,10 @@ use Rattle.std.specs.declared.option.Option.{Option}
 use Rattle.zv_var.specs.Format.{Part, codable}
 use Rattle.zv_map2d.specs.Fits.{fits_texts}
 use Rattle.zv_map2d.specs.Image.{IsTextMap, by_bytes}
-use Rattle.zv_map2d.specs.Laws.{IsCodable}
+use Rattle.zv_map2d_laws.specs.Laws.{IsCodable}
 use Rattle.zv_map2d.specs.Rows.{Rows, put}
-use Rattle.zv_map2d.proofs.Kept.{put_texts, del_texts, put_codable, del_codable}
-use Rattle.zv_map2d.proofs.Standing.{canon_stands}
+use Rattle.zv_map2d_laws.proofs.Kept.{put_texts, del_texts, put_codable, del_codable}
+use Rattle.zv_map2d_laws.proofs.Standing.{canon_stands}
 use Rattle.zv_tool.specs.declared.command.Command.{Command}
 use Rattle.zv_tool.specs.declared.command.Command.TheVariants.{Get, Put, Del, Row}
 use Rattle.zv_tool.specs.Answers.{last, next}

@@ -8,7 +8,7 @@ use Rattle.zv_ule.specs.declared.error.TyName.TheVariants.{RawBytes4, VarZeroSli
 use Rattle.zv_ule.specs.declared.error.UleError.TheVariants.{InvalidLength, ParseError}
 use Rattle.zv_map2d.specs.declared.error.EditError.TheVariants.{Frame, Ule, Keys0Joiner, Keys1Values, JoinerOrder, JoinerEnd, KeyOrder}
 use Rattle.zv_map2d.specs.Image.{canon}
-use Rattle.zv_map2d.specs.Locales.{locales}
+use Rattle.zv_map2d_laws.specs.Locales.{locales}
 use Rattle.zv_map2d.specs.Rows.{Rows, ends}
 use Rattle.zv_tool.specs.declared.command.Command.{Command}
 use Rattle.zv_tool.specs.declared.command.Command.TheVariants.{Get, Put, Del, Row}

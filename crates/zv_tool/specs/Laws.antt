@@ -4,7 +4,7 @@ use Rattle.std.specs.List.{AllByRecursion}
 use Rattle.zv_ule.specs.Bytes.{IsBytes}
 use Rattle.zv_ule.specs.Kinds.{text_fault}
 use Rattle.zv_map2d.specs.Image.{IsTextMap, Stands, canon}
-use Rattle.zv_map2d.specs.Laws.{IsCodable}
+use Rattle.zv_map2d_laws.specs.Laws.{IsCodable}
 use Rattle.zv_map2d.specs.Rows.{Rows}
 use Rattle.zv_tool.specs.declared.command.Command.{Command}
 use Rattle.zv_tool.specs.declared.command.Command.TheVariants.{Get, Put, Del, Row}

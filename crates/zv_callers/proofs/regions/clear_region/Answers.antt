@@ -2,7 +2,7 @@ use Rattle.std.proofs.Common.{ap, ◌∙◌}
 use Rattle.std.proofs.lemmas.Cmp.{nat_list_cmp_total}
 use Rattle.zv_map2d.specs.Image.{by_bytes}
 use Rattle.zv_map2d.specs.Rows.{Rows, find}
-use Rattle.zv_map2d.proofs.FiniteMap.{del_is_gone}
+use Rattle.zv_map2d_laws.proofs.FiniteMap.{del_is_gone}
 use Rattle.zv_callers.proofs.regions.clear_region.Goals as goal
 
 pub returns-clause-gone : goal.returns-clause-gone

@@ -2,7 +2,7 @@ use Rattle.std.proofs.Common.{ap, ◌∙◌}
 use Rattle.std.proofs.lemmas.Cmp.{nat_list_cmp_total}
 use Rattle.zv_map2d.specs.Image.{by_bytes}
 use Rattle.zv_map2d.specs.Rows.{Rows, find}
-use Rattle.zv_map2d.proofs.FiniteMap.{put_is_found}
+use Rattle.zv_map2d_laws.proofs.FiniteMap.{put_is_found}
 use Rattle.zv_callers.proofs.regions.set_region.Goals as goal
 
 pub returns-clause-found : goal.returns-clause-found

@@ -1,8 +1,6 @@
-use Rattle.std.proofs.Common.{rules, ◌∙◌, ap}
-use Rattle.zv_ule.specs.Bytes.{IsBytes}
-use Rattle.zv_map2d.specs.Views.{bytes_of}
+use Rattle.zv_map2d.proofs.Common.{rules, ◌∙◌, ap, IsBytes, bytes_of}
 use Rattle.zv_map2d.specs.Image.{fault_of}
-use Rattle.zv_map2d.proofs.Standing.{parsed_stands, parsed_frame}
+use Rattle.zv_map2d.proofs.Unframed.{parsed_stands, parsed_frame}
 use Rattle.zv_map2d.proofs.image.parse_image.Goals as goal
 
 pub returns-clause-error : goal.returns-clause-error

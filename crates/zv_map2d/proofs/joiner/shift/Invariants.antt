@@ -1,4 +1,4 @@
-use Rattle.std.proofs.Common.{◌≡◌, ℕ, ◌+◌, ◌-◌, ◌<◌, ◌≤◌, length, get_or, true}
+use Rattle.zv_map2d.proofs.Common.{◌≡◌, ℕ, ◌+◌, ◌-◌, ◌<◌, ◌≤◌, length, get_or, true}
 use Rattle.zv_map2d.proofs.joiner.shift.Given as goal
 
 abbrev pub invariant-loop-row : goal.invariant-loop-row

@@ -1,7 +1,5 @@
-use Rattle.std.proofs.Common.{◌≡◌}
-use Rattle.zv_fixed.specs.Iters.{left_of}
+use Rattle.zv_map2d.proofs.Common.{◌≡◌, left_of, last_ascending}
 use Rattle.zv_fixed.specs.Views.{values_in}
-use Rattle.zv_map2d.specs.Causes.{last_ascending}
 use Rattle.zv_map2d.proofs.parse.last_ascending_end.Given as goal
 
 abbrev pub invariant-loop-end : goal.invariant-loop-end

@@ -1,5 +1,4 @@
-use Rattle.std.proofs.Common.{length}
-use Rattle.zv_fixed.specs.Iters.{left_of}
+use Rattle.zv_map2d.proofs.Common.{length, left_of}
 use Rattle.zv_map2d.proofs.Parsed.{end_within}
 use Rattle.zv_map2d.proofs.parse.rows_ascend.Goals as goal
 

@@ -1,10 +1,5 @@
-use Rattle.std.proofs.Common.{◌≡◌, Some, length}
-use Rattle.std.specs.List.{list_all}
-use Rattle.zv_fixed.specs.Iters.{left_of}
+use Rattle.zv_map2d.proofs.Common.{◌≡◌, Some, length, list_all, left_of, pieces, last_ascending, ascends}
 use Rattle.zv_fixed.specs.Views.{values_in}
-use Rattle.zv_var.specs.Format.{pieces}
-use Rattle.zv_map2d.specs.Causes.{last_ascending}
-use Rattle.zv_map2d.specs.Keys.{ascends}
 use Rattle.zv_map2d.proofs.parse.rows_ascend.Given as goal
 
 abbrev pub invariant-loop-end : goal.invariant-loop-end

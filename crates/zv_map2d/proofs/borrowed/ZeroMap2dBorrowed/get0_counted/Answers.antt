@@ -1,7 +1,4 @@
-use Rattle.std.proofs.Common.{[], Some, sym, ◌∙◌, ap}
-use Rattle.zv_map.proofs.Places.{at_within, entry_at, entry_gap, look_up_gap}
-use Rattle.zv_map2d.specs.Borrowed.{rows_in}
-use Rattle.zv_map2d.specs.Views.{Row}
+use Rattle.zv_map2d.proofs.Common.{[], Some, sym, ◌∙◌, ap, at_within, entry_at, entry_gap, look_up_gap, rows_in, Row}
 use Rattle.zv_map2d.proofs.Flat.{row_pair}
 use Rattle.zv_map2d.proofs.Places.{look_up_row}
 use Rattle.zv_map2d.proofs.borrowed.ZeroMap2dBorrowed.get0_counted.Goals as goal
@@ -9,21 +6,15 @@ use Rattle.zv_map2d.proofs.borrowed.ZeroMap2dBorrowed.get0_counted.Goals as goal
 pub returns-in-Ok-clause-row : goal.returns-in-Ok-clause-row
 returns-in-Ok-clause-row g c =
     let m = rows_in c.args.self.now in
-    let k0 = g.Q0.ZvArg.bytes c.args.key0.now in
     ap (λ (r : Row). Some (r.key, r.pairs)) c.cursor.ensures
-    ∙ sym (entry_at g.met.K0.ZvOrd.total k0 m c.in-Ok.row c.in-Ok.ensures.place
-    ∙ row_pair m c.in-Ok.row (at_within g.K0.ZvOrd.cmp k0 m c.in-Ok.row c.in-Ok.ensures.place))
+    ∙ sym (entry_at g.met.K0.ZvOrd.total _ m _ c.in-Ok.ensures.place ∙ row_pair m _ (at_within g.K0.ZvOrd.cmp _ m _ c.in-Ok.ensures.place))
 
 pub returns-in-Ok-clause-pairs : goal.returns-in-Ok-clause-pairs
 returns-in-Ok-clause-pairs g c =
-    ap (λ (r : Row). Some r.pairs) c.cursor.ensures
-    ∙ sym (look_up_row g.met.K0.ZvOrd.total g.met.K1.ZvOrd.total (rows_in c.args.self.now) (g.Q0.ZvArg.bytes c.args.key0.now) [] c.in-Ok.row
-    c.in-Ok.ensures.place)
+    ap (λ (r : Row). Some r.pairs) c.cursor.ensures ∙ sym (look_up_row g.met.K0.ZvOrd.total g.met.K1.ZvOrd.total _ _ [] _ c.in-Ok.ensures.place)
 
 pub returns-in-Err-clause-row : goal.returns-in-Err-clause-row
-returns-in-Err-clause-row g c =
-    sym (entry_gap g.met.K0.ZvOrd.total (g.Q0.ZvArg.bytes c.args.key0.now) (rows_in c.args.self.now) _ c.in-Err.ensures.place)
+returns-in-Err-clause-row g c = sym (entry_gap g.met.K0.ZvOrd.total _ _ _ c.in-Err.ensures.place)
 
 pub returns-in-Err-clause-pairs : goal.returns-in-Err-clause-pairs
-returns-in-Err-clause-pairs g c =
-    sym (look_up_gap g.met.K0.ZvOrd.total (g.Q0.ZvArg.bytes c.args.key0.now) (rows_in c.args.self.now) _ c.in-Err.ensures.place)
+returns-in-Err-clause-pairs g c = sym (look_up_gap g.met.K0.ZvOrd.total _ _ _ c.in-Err.ensures.place)

@@ -1,11 +1,8 @@
-use Rattle.std.proofs.Common.{◌≡◌, ◌-◌, ℕ, length, map, ◌∙◌, ap, arith}
-use Rattle.zv_map2d.specs.Borrowed.{rows_in}
-use Rattle.zv_map2d.specs.Views.{Row, rows_seen}
+use Rattle.zv_map2d.proofs.Common.{◌≡◌, ◌-◌, length, arith, rows_in}
 use Rattle.zv_map2d.proofs.RowIters.{seen_all}
 use Rattle.zv_map2d.proofs.borrowed.ZeroMap2dBorrowed.iter0.Goals as goal
 
 pub returns : goal.returns
 returns g c =
-    let m = rows_in c.args.self.now in
-    let count : c.rows.result - 0 ≡ length m = omega (arith, c.rows.ensures) in
-    ap (λ (n : ℕ). map (λ (r : Row). (r.key, r.pairs)) (rows_seen m 0 n)) count ∙ seen_all m
+    let count : c.rows.result - 0 ≡ length (rows_in c.args.self.now) = omega (arith, c.rows.ensures) in
+    rw count (seen_all (rows_in c.args.self.now))

@@ -1,5 +1,4 @@
-use Rattle.std.proofs.Common.{refl, ap}
-use Rattle.zv_map2d.specs.Causes.{numbers}
+use Rattle.zv_map2d.proofs.Common.{refl, ap, numbers}
 use Rattle.zv_map2d.proofs.Flat.{view_of}
 use Rattle.zv_map2d.proofs.Seen.{none, views}
 use Rattle.zv_map2d.proofs.Well.{none_well}
@@ -13,5 +12,4 @@ invariant_of-result g c =
 
 pub returns : goal.returns
 returns g c =
-    view_of _ _ _ _ _ (none c.zvl_new_borrowed.ensures.list (ap numbers c.new_empty.ensures) c.zvl_new_borrowed-2.ensures.list
-    c.zvl_new_borrowed-3.ensures.list)
+    view_of (none c.zvl_new_borrowed.ensures.list (ap numbers c.new_empty.ensures) c.zvl_new_borrowed-2.ensures.list c.zvl_new_borrowed-3.ensures.list)

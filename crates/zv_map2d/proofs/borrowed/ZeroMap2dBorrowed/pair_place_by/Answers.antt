@@ -1,30 +1,18 @@
-use Rattle.std.proofs.Common.{List, map, refl, ◌∙◌, ap, subst}
-use Rattle.std.specs.List.Sorted.{IsSearchInRange}
-use Rattle.std.specs.declared.cmp.Ordering.{Ordering}
-use Rattle.zv_map.specs.Views.{list_of}
-use Rattle.zv_ule.specs.Search.{AnsweredEqual, Found}
-use Rattle.zv_map2d.specs.Keys.{Bytes}
+use Rattle.zv_map2d.proofs.Common.{refl}
 use Rattle.zv_map2d.proofs.Picked.{answers_range}
 use Rattle.zv_map2d.proofs.Seen.{in_range, row_range_is, row_size}
 use Rattle.zv_map2d.proofs.borrowed.ZeroMap2dBorrowed.pair_place_by.Goals as goal
 
 pub unreachable-requires : goal.unreachable-requires
-unreachable-requires g c =
-    in_range c.args.self.now.flat c.args.row _ _ c.requires.row c.row_start-start.ensures c.row_end-end.ensures (c.in-None.ensures.none.0 refl)
+unreachable-requires g c = in_range c.args.self.now.flat _ _ _ c.requires.row c.row_start-start.ensures c.row_end-end.ensures (c.in-None.ensures.none.0 refl)
 
 pub returns-clause-bound : goal.returns-clause-bound
-returns-clause-bound g c =
-    subst (IsSearchInRange c.in-Some.place)
-    (row_size c.args.self.now.flat c.args.row _ _ c.requires.row c.row_start-start.ensures c.row_end-end.ensures) c.in-Some.ensures.bound
+returns-clause-bound g c = rw (← row_size c.args.self.now.flat _ _ _ c.requires.row c.row_start-start.ensures c.row_end-end.ensures) c.in-Some.ensures.bound
 
 pub returns-clause-equal : goal.returns-clause-equal
-returns-clause-equal g c =
-    subst (λ (xs : List Bytes). AnsweredEqual g.P.FnMut c.args.predicate xs c.in-Some.place)
-    (row_range_is c.args.self.now.flat c.args.row _ _ c.requires.row c.row_start-start.ensures c.row_end-end.ensures) c.in-Some.ensures.equal
+returns-clause-equal g c = rw (← row_range_is c.args.self.now.flat _ _ _ c.requires.row c.row_start-start.ensures c.row_end-end.ensures) c.in-Some.ensures.equal
 
 pub returns-clause-found : goal.returns-clause-found
 returns-clause-found g c = λ answer computes.
-    subst (λ (answers : List Ordering). Found answers c.in-Some.place)
-    (answers_range answer (list_of c.args.self.now.keys1) c.row_start-start.result c.row_end-end.result
-    ∙ ap (map answer) (row_range_is c.args.self.now.flat c.args.row _ _ c.requires.row c.row_start-start.ensures c.row_end-end.ensures))
+    rw (← row_range_is c.args.self.now.flat _ _ _ c.requires.row c.row_start-start.ensures c.row_end-end.ensures, ← answers_range)
     (c.in-Some.ensures.found answer computes)

@@ -1,9 +1,5 @@
-use Rattle.std.proofs.Common.{◌≡◌, sym, ap, arith}
-use Rattle.zv_map2d.specs.Borrowed.{rows_in}
-use Rattle.zv_map2d.specs.Rows.{before}
+use Rattle.zv_map2d.proofs.Common.{◌≡◌, refl, arith}
 use Rattle.zv_map2d.proofs.borrowed.ZeroMap2dBorrowed.row_start.Goals as goal
 
 pub returns-in-None : goal.returns-in-None
-returns-in-None g c =
-    let none : c.args.row ≡ 0 = omega (arith, c.in-None.ensures) in
-    sym (ap (before (rows_in c.args.self.now)) none)
+returns-in-None g c = let none : c.args.row ≡ 0 = omega (arith, c.in-None.ensures) in rw none refl

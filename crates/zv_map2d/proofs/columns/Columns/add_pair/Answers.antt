@@ -1,7 +1,5 @@
-use Rattle.std.proofs.Common.{refl, sym, subst, arith}
-use Rattle.zv_map2d.specs.Room.{IsOwned}
+use Rattle.zv_map2d.proofs.Common.{rules, refl, arith}
 use Rattle.zv_map2d.proofs.Flat.{view_of}
-use Rattle.zv_map2d.proofs.Room.{owned_by_room, spent}
 use Rattle.zv_map2d.proofs.Seen.{columns, ends_below, few_more, one_more, pair_goes, same_lists, seen}
 use Rattle.zv_map2d.proofs.Splices.{pair_added}
 use Rattle.zv_map2d.proofs.columns.Columns.add_pair.Goals as goal
@@ -24,14 +22,11 @@ invariant_of-self g c =
 
 pub returns-clause-rows : goal.returns-clause-rows
 returns-clause-rows g c =
-    view_of _ _ _ _ _ (same_lists refl c.shift.ensures.values c.zvl_insert_reserved.ensures.list c.zvl_insert_reserved-2.ensures.list
+    view_of (same_lists refl c.shift.ensures.values c.zvl_insert_reserved.ensures.list c.zvl_insert_reserved-2.ensures.list
     (pair_added (seen c.self.view_is c.self.invariant) _ _ _ c.requires.row c.pair_start-at.ensures _ _ c.requires.pair))
 
 pub returns-clause-spends : goal.returns-clause-spends
 returns-clause-spends g c =
-    let own = subst IsOwned (sym c.self.view_is) (owned_by_room c.requires.room) in
-    spent c.self.view_is (record { owned = own.keys0; spare = omega arith })
-    (record { owned = c.shift.ensures.owned; spare = omega (arith, c.shift.ensures.spare) })
-    (record { owned = g.met.C1.ZvContainer.ready_owned _ c.zvl_insert_reserved.ensures.ready; spare = omega (arith, c.zvl_insert_reserved.ensures.spare) })
-    (record { owned = g.met.D.ZvContainer.ready_owned _ c.zvl_insert_reserved-2.ensures.ready; spare = omega (arith, c.zvl_insert_reserved-2.ensures.spare) })
-    (few_more 1 c.self.invariant (invariant_of-self g c) (one_more _ _ _ _ c.zvl_insert_reserved.ensures.list))
+    let room = rw (← c.self.view_is) at c.requires.room in
+    let pairs = few_more 1 c.self.invariant (invariant_of-self g c) (one_more _ _ _ _ c.zvl_insert_reserved.ensures.list) in
+    rw (← c.self.view_is) (search (rules, pairs, g.met.C1.ZvContainer.ready_owned, g.met.D.ZvContainer.ready_owned))

@@ -1,8 +1,7 @@
-use Rattle.std.proofs.Common.{length, ap, arith}
+use Rattle.zv_map2d.proofs.Common.{rules, length, ap, arith}
 use Rattle.zv_map2d.proofs.Flat.{view_of}
-use Rattle.zv_map2d.proofs.Room.{spent}
 use Rattle.zv_map2d.proofs.Seen.{columns, ends_below, ends_count, few_more, one_more, row_goes, rows_count, same_lists, seen}
-use Rattle.zv_map2d.proofs.Splices.{row_added, shift_count, start_within}
+use Rattle.zv_map2d.proofs.Splices.{row_added, shift_count}
 use Rattle.zv_map2d.proofs.columns.Columns.add_row.Goals as goal
 
 pub zvl_insert_reserved-requires-clause-place : goal.zvl_insert_reserved-requires-clause-place
@@ -17,12 +16,6 @@ zvl_insert_reserved-requires-3-clause-place g c = (row_goes (seen c.self.view_is
 pub shift-requires-clause-below : goal.shift-requires-clause-below
 shift-requires-clause-below g c = λ k h. omega (arith, ends_below (seen c.self.view_is c.self.invariant) (omega (arith, c.requires.room.pairs)) k h)
 
-pub overflow_cast-at : goal.overflow_cast-at
-overflow_cast-at g c = omega (arith, c.row_start-at.ensures, start_within (λ p. p.0) c.args.self.now.rows c.args.row, c.requires.room.pairs)
-
-pub overflow_add-at : goal.overflow_add-at
-overflow_add-at g c = omega (arith, c.row_start-at.ensures, start_within (λ p. p.0) c.args.self.now.rows c.args.row, c.requires.room.pairs)
-
 pub insert_owned-requires-clause-place : goal.insert_owned-requires-clause-place
 insert_owned-requires-clause-place g c =
     let many = shift_count 1 0 c.args.row c.self.inside.joiner.values in
@@ -36,15 +29,11 @@ invariant_of-self g c =
 
 pub returns-clause-rows : goal.returns-clause-rows
 returns-clause-rows g c =
-    view_of _ _ _ _ _ (same_lists c.zvl_insert_reserved.ensures.list (rw (← c.shift.ensures.values) c.insert_owned.ensures.values)
+    view_of (same_lists c.zvl_insert_reserved.ensures.list (rw (← c.shift.ensures.values) c.insert_owned.ensures.values)
     c.zvl_insert_reserved-2.ensures.list c.zvl_insert_reserved-3.ensures.list
     (row_added (seen c.self.view_is c.self.invariant) _ _ _ _ _ c.requires.row c.row_start-at.ensures))
 
 pub returns-clause-spends : goal.returns-clause-spends
 returns-clause-spends g c =
-    spent c.self.view_is
-    (record { owned = g.met.C0.ZvContainer.ready_owned _ c.zvl_insert_reserved.ensures.ready; spare = omega (arith, c.zvl_insert_reserved.ensures.spare) })
-    (record { owned = c.insert_owned.ensures.owned; spare = omega (arith, c.shift.ensures.spare, c.insert_owned.ensures.spare) })
-    (record { owned = g.met.C1.ZvContainer.ready_owned _ c.zvl_insert_reserved-2.ensures.ready; spare = omega (arith, c.zvl_insert_reserved-2.ensures.spare) })
-    (record { owned = g.met.D.ZvContainer.ready_owned _ c.zvl_insert_reserved-3.ensures.ready; spare = omega (arith, c.zvl_insert_reserved-3.ensures.spare) })
-    (few_more 1 c.self.invariant (invariant_of-self g c) (one_more _ _ _ _ c.zvl_insert_reserved-2.ensures.list))
+    let pairs = few_more 1 c.self.invariant (invariant_of-self g c) (one_more _ _ _ _ c.zvl_insert_reserved-2.ensures.list) in
+    rw (← c.self.view_is) (search (rules, pairs, g.met.C0.ZvContainer.ready_owned, g.met.C1.ZvContainer.ready_owned, g.met.D.ZvContainer.ready_owned))

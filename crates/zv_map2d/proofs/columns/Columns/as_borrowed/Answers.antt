@@ -11,5 +11,5 @@ invariant_of-result g c =
 
 pub returns-clause-rows : goal.returns-clause-rows
 returns-clause-rows g c =
-    view_of _ _ _ _ _ (same_lists c.zvl_as_borrowed.ensures.list c.as_slice.ensures.values c.zvl_as_borrowed-2.ensures.list c.zvl_as_borrowed-3.ensures.list
+    view_of (same_lists c.zvl_as_borrowed.ensures.list c.as_slice.ensures.values c.zvl_as_borrowed-2.ensures.list c.zvl_as_borrowed-3.ensures.list
     (seen c.self.view_is c.self.invariant))

@@ -1,3 +1,4 @@
+use Rattle.zv_map2d.proofs.Common.{rules}
 use Rattle.zv_map2d.proofs.Flat.{view_of}
 use Rattle.zv_map2d.proofs.Seen.{columns, none}
 use Rattle.zv_map2d.proofs.columns.Columns.clear.Goals as goal
@@ -7,12 +8,7 @@ invariant_of-self g c =
     columns c.self.invariant (none c.zvl_clear.ensures.list c.remove_all.ensures.values c.zvl_clear-2.ensures.list c.zvl_clear-3.ensures.list)
 
 pub returns-clause-rows : goal.returns-clause-rows
-returns-clause-rows g c = view_of _ _ _ _ _ (none c.zvl_clear.ensures.list c.remove_all.ensures.values c.zvl_clear-2.ensures.list c.zvl_clear-3.ensures.list)
+returns-clause-rows g c = view_of (none c.zvl_clear.ensures.list c.remove_all.ensures.values c.zvl_clear-2.ensures.list c.zvl_clear-3.ensures.list)
 
 pub returns-clause-room : goal.returns-clause-room
-returns-clause-room g c = rw (← c.self.view_is) (record {
-  keys0 = record { owned = c.zvl_clear.ensures.owned; spare = c.zvl_clear.ensures.spare };
-  joiner = record { owned = c.remove_all.ensures.owned; spare = c.remove_all.ensures.spare };
-  keys1 = record { owned = c.zvl_clear-2.ensures.owned; spare = c.zvl_clear-2.ensures.spare };
-  values = record { owned = c.zvl_clear-3.ensures.owned; spare = c.zvl_clear-3.ensures.spare };
-})
+returns-clause-room g c = rw (← c.self.view_is) (search rules)

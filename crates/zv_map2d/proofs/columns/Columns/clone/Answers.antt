@@ -1,5 +1,4 @@
-use Rattle.std.proofs.Common.{refl}
-use Rattle.zv_map2d.proofs.Room.{copy_of}
+use Rattle.zv_map2d.proofs.Common.{rules}
 use Rattle.zv_map2d.proofs.Seen.{columns, same_lists}
 use Rattle.zv_map2d.proofs.columns.Columns.clone.Goals as goal
 
@@ -9,8 +8,4 @@ invariant_of-result g c =
     (same_lists c.in_ok-keys0.ensures.list c.in_ok-joiner.ensures.values c.in_ok-keys1.ensures.list c.in_ok-values.ensures.list c.self.invariant.flat)
 
 pub returns : goal.returns
-returns g c =
-    copy_of c.self.view_is
-    (rw (c.in_ok-keys0.ensures.list, c.in_ok-joiner.ensures.values, c.in_ok-keys1.ensures.list, c.in_ok-values.ensures.list) refl)
-    c.in_ok-keys0.ensures.bytes c.in_ok-joiner.ensures.bytes c.in_ok-keys1.ensures.bytes c.in_ok-values.ensures.bytes
-    c.in_ok-keys0.ensures.owned c.in_ok-joiner.ensures.owned c.in_ok-keys1.ensures.owned c.in_ok-values.ensures.owned
+returns g c = rw (← c.self.view_is) (search rules)

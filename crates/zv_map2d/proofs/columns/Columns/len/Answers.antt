@@ -1,4 +1,4 @@
-use Rattle.std.proofs.Common.{length, ◌∙◌, ap}
+use Rattle.zv_map2d.proofs.Common.{length, ◌∙◌, ap}
 use Rattle.zv_map2d.proofs.Seen.{seen}
 use Rattle.zv_map2d.proofs.columns.Columns.len.Goals as goal
 

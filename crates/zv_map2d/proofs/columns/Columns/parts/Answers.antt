@@ -1,4 +1,4 @@
-use Rattle.std.proofs.Common.{◌∙◌}
+use Rattle.zv_map2d.proofs.Common.{◌∙◌}
 use Rattle.zv_map2d.proofs.Seen.{seen}
 use Rattle.zv_map2d.proofs.columns.Columns.parts.Goals as goal
 

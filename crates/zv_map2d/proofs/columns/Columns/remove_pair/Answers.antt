@@ -1,7 +1,5 @@
-use Rattle.std.proofs.Common.{refl, sym, subst, arith}
-use Rattle.zv_map2d.specs.Room.{IsOwned}
+use Rattle.zv_map2d.proofs.Common.{rules, refl, arith}
 use Rattle.zv_map2d.proofs.Flat.{view_of}
-use Rattle.zv_map2d.proofs.Room.{spent}
 use Rattle.zv_map2d.proofs.Seen.{columns, ends_some, few_more, no_more, pair_stands, same_lists, seen}
 use Rattle.zv_map2d.proofs.Splices.{pair_removed}
 use Rattle.zv_map2d.proofs.columns.Columns.remove_pair.Goals as goal
@@ -22,14 +20,11 @@ invariant_of-self g c =
 
 pub returns-clause-rows : goal.returns-clause-rows
 returns-clause-rows g c =
-    view_of _ _ _ _ _ (same_lists refl c.shift.ensures.values c.zvl_discard.ensures.list c.zvl_discard-2.ensures.list
+    view_of (same_lists refl c.shift.ensures.values c.zvl_discard.ensures.list c.zvl_discard-2.ensures.list
     (pair_removed (seen c.self.view_is c.self.invariant) _ _ _ c.requires.row c.pair_start-at.ensures c.requires.pair))
 
 pub returns-clause-spends : goal.returns-clause-spends
 returns-clause-spends g c =
-    let own = subst IsOwned (sym c.self.view_is) c.requires.owned in
-    spent c.self.view_is (record { owned = own.keys0; spare = omega arith })
-    (record { owned = c.shift.ensures.owned; spare = omega (arith, c.shift.ensures.spare) })
-    (record { owned = c.zvl_discard.ensures.owned; spare = omega (arith, c.zvl_discard.ensures.spare) })
-    (record { owned = c.zvl_discard-2.ensures.owned; spare = omega (arith, c.zvl_discard-2.ensures.spare) })
-    (few_more 0 c.self.invariant (invariant_of-self g c) (no_more _ _ _ c.zvl_discard.ensures.list))
+    let own = rw (← c.self.view_is) at c.requires.owned in
+    let pairs = few_more 0 c.self.invariant (invariant_of-self g c) (no_more _ _ c.pair_start-at.result c.zvl_discard.ensures.list) in
+    rw (← c.self.view_is) (search (rules, pairs))

@@ -1,6 +1,5 @@
-use Rattle.std.proofs.Common.{length, ap, arith}
+use Rattle.zv_map2d.proofs.Common.{rules, length, ap, arith}
 use Rattle.zv_map2d.proofs.Flat.{view_of}
-use Rattle.zv_map2d.proofs.Room.{spent}
 use Rattle.zv_map2d.proofs.Seen.{columns, ends_count, ends_some, few_more, no_more, pair_stands, same_lists, seen}
 use Rattle.zv_map2d.proofs.Splices.{row_removed, shift_count}
 use Rattle.zv_map2d.proofs.columns.Columns.remove_row.Goals as goal
@@ -31,14 +30,11 @@ invariant_of-self g c =
 
 pub returns-clause-rows : goal.returns-clause-rows
 returns-clause-rows g c =
-    view_of _ _ _ _ _ (same_lists c.zvl_discard.ensures.list (rw (← c.shift.ensures.values) c.remove_owned.ensures.values)
+    view_of (same_lists c.zvl_discard.ensures.list (rw (← c.shift.ensures.values) c.remove_owned.ensures.values)
     c.zvl_discard-2.ensures.list c.zvl_discard-3.ensures.list
     (row_removed (seen c.self.view_is c.self.invariant) _ _ c.requires.row c.requires.single c.row_start-at.ensures))
 
 pub returns-clause-spends : goal.returns-clause-spends
 returns-clause-spends g c =
-    spent c.self.view_is (record { owned = c.zvl_discard.ensures.owned; spare = omega (arith, c.zvl_discard.ensures.spare) })
-    (record { owned = c.remove_owned.ensures.owned; spare = omega (arith, c.shift.ensures.spare, c.remove_owned.ensures.spare) })
-    (record { owned = c.zvl_discard-2.ensures.owned; spare = omega (arith, c.zvl_discard-2.ensures.spare) })
-    (record { owned = c.zvl_discard-3.ensures.owned; spare = omega (arith, c.zvl_discard-3.ensures.spare) })
-    (few_more 0 c.self.invariant (invariant_of-self g c) (no_more _ _ _ c.zvl_discard-2.ensures.list))
+    let pairs = few_more 0 c.self.invariant (invariant_of-self g c) (no_more _ _ c.row_start-at.result c.zvl_discard-2.ensures.list) in
+    rw (← c.self.view_is) (search (rules, pairs))

@@ -1,4 +1,4 @@
-use Rattle.std.proofs.Common.{refl, rules}
+use Rattle.zv_map2d.proofs.Common.{refl, rules}
 use Rattle.zv_map2d.proofs.Flat.{view_of}
 use Rattle.zv_map2d.proofs.Seen.{columns, pair_stands, same_lists, seen}
 use Rattle.zv_map2d.proofs.Splices.{value_set}
@@ -15,7 +15,7 @@ invariant_of-self-2 g c =
 
 pub returns : goal.returns
 returns g c = record {
-  rows = view_of _ _ _ _ _ (same_lists refl refl refl c.in_ok-old.ensures.ok
+  rows = view_of (same_lists refl refl refl c.in_ok-old.ensures.ok
       (value_set (seen c.self.view_is c.self.invariant) _ _ _ c.requires.row c.pair_start-at.ensures _ c.requires.pair));
   before = search rules;
   err = tt;

@@ -1,4 +1,4 @@
-use Rattle.std.proofs.Common.{◌∙◌}
+use Rattle.zv_map2d.proofs.Common.{◌∙◌}
 use Rattle.zv_map2d.proofs.Seen.{rows_count, seen}
 use Rattle.zv_map2d.proofs.columns.Columns.rows.Goals as goal
 

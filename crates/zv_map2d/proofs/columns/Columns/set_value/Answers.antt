@@ -1,7 +1,5 @@
-use Rattle.std.proofs.Common.{refl, sym, subst, arith}
-use Rattle.zv_map2d.specs.Room.{IsOwned}
+use Rattle.zv_map2d.proofs.Common.{rules, refl, arith}
 use Rattle.zv_map2d.proofs.Flat.{view_of}
-use Rattle.zv_map2d.proofs.Room.{owned_by_room, spent}
 use Rattle.zv_map2d.proofs.Seen.{columns, few_more, pair_stands, same_lists, seen}
 use Rattle.zv_map2d.proofs.Splices.{value_set}
 use Rattle.zv_map2d.proofs.columns.Columns.set_value.Goals as goal
@@ -17,13 +15,11 @@ invariant_of-self g c =
 
 pub returns-clause-rows : goal.returns-clause-rows
 returns-clause-rows g c =
-    view_of _ _ _ _ _ (same_lists refl refl refl c.zvl_replace_reserved.ensures.list
+    view_of (same_lists refl refl refl c.zvl_replace_reserved.ensures.list
     (value_set (seen c.self.view_is c.self.invariant) _ _ _ c.requires.row c.pair_start-at.ensures _ c.requires.pair))
 
 pub returns-clause-spends : goal.returns-clause-spends
 returns-clause-spends g c =
-    let own = subst IsOwned (sym c.self.view_is) (owned_by_room c.requires.room) in
-    let ready = g.met.D.ZvContainer.ready_owned _ c.zvl_replace_reserved.ensures.ready in
-    spent c.self.view_is (record { owned = own.keys0; spare = omega arith }) (record { owned = own.joiner; spare = omega arith })
-    (record { owned = own.keys1; spare = omega arith }) (record { owned = ready; spare = omega (arith, c.zvl_replace_reserved.ensures.spare) })
-    (few_more 1 c.self.invariant (invariant_of-self g c) (omega arith))
+    let room = rw (← c.self.view_is) at c.requires.room in
+    let pairs = few_more 1 c.self.invariant (invariant_of-self g c) (omega arith) in
+    rw (← c.self.view_is) (search (rules, pairs, g.met.D.ZvContainer.ready_owned))

@@ -1,6 +1,5 @@
-use Rattle.std.proofs.Common.{subst, sym}
+use Rattle.zv_map2d.proofs.Common.{subst, sym, FoundBy, IsPicked}
 use Rattle.zv_ule.specs.Views.{element_of}
-use Rattle.zv_map2d.specs.Predicates.{FoundBy, IsPicked}
 use Rattle.zv_map2d.proofs.Picked.{same_picked}
 use Rattle.zv_map2d.proofs.cursor.ZeroMap2dCursor.get1_copied_by.Goals as goal
 

@@ -1,6 +1,4 @@
-use Rattle.std.proofs.Common.{sym, subst}
-use Rattle.zv_map2d.specs.Rows.{IsWell}
 use Rattle.zv_map2d.proofs.map.Map2dOver.clone.Goals as goal
 
 pub invariant_of-result : goal.invariant_of-result
-invariant_of-result g c = subst (IsWell g.K0.ZvOrd.cmp g.K1.ZvOrd.cmp) (sym c.in_ok-columns.ensures.rows) c.self.invariant
+invariant_of-result g c = rw c.in_ok-columns.ensures.rows c.self.invariant

@@ -1,9 +1,5 @@
-use Rattle.std.proofs.Common.{sym, subst}
-use Rattle.zv_map2d.specs.Rows.{IsWell}
 use Rattle.zv_map2d.proofs.Well.{del_well}
 use Rattle.zv_map2d.proofs.map.Map2dOver.discard_at.Goals as goal
 
 pub invariant_of-self : goal.invariant_of-self
-invariant_of-self g c =
-    subst (IsWell g.K0.ZvOrd.cmp g.K1.ZvOrd.cmp) (sym c.discard_at.ensures.rows) (del_well g.met.K0.ZvOrd.total g.met.K1.ZvOrd.total
-    c.self.inside.columns.rows (g.Q0.ZvArg.bytes c.args.key0.now) c.self.invariant (g.Q1.ZvArg.bytes c.args.key1.now))
+invariant_of-self g c = rw c.discard_at.ensures.rows (del_well g.met.K0.ZvOrd.total g.met.K1.ZvOrd.total _ _ c.self.invariant _)

@@ -3,6 +3,5 @@ use Rattle.zv_map2d.proofs.map.Map2dOver.insert.Goals as goal
 
 pub invariant_of-self : goal.invariant_of-self
 invariant_of-self g c =
-    changed_well c.self.inside.columns c.insert.new.self g.K0.ZvOrd.cmp g.K1.ZvOrd.cmp _
-    (put_well g.met.K0.ZvOrd.total g.met.K1.ZvOrd.total c.self.inside.columns.rows (g.Q0.ZvArg.bytes c.args.key0.now) c.self.invariant
-    (g.Q1.ZvArg.bytes c.args.key1.now) (g.R.ZvArg.bytes c.args.value.now)) c.self.invariant c.insert.result c.insert.ensures.rows c.insert.ensures.err
+    changed_well _ _ _ _ _ (put_well g.met.K0.ZvOrd.total g.met.K1.ZvOrd.total _ _ c.self.invariant _ _) c.self.invariant _
+    c.insert.ensures.rows c.insert.ensures.err

@@ -1,6 +1,4 @@
-use Rattle.std.proofs.Common.{drop}
-use Rattle.zv_map2d.specs.Appending.{written}
-use Rattle.zv_map2d.specs.Fits.{rule_of}
+use Rattle.zv_map2d.proofs.Common.{drop, written, rule_of}
 use Rattle.zv_map2d.proofs.Ends.{LeadsTo}
 use Rattle.zv_map2d.proofs.map.Map2dOver.try_from_triples.Given as goal
 

@@ -1,16 +1,9 @@
-use Rattle.std.proofs.Common.{◌<◌, ◌-◌, [], ◌∷◌, ◌++◌, length, sym, ◌∙◌, ap, arith}
-use Rattle.std.proofs.lemmas.List.{length_push}
-use Rattle.zv_map2d.specs.Borrowed.{rows_in}
-use Rattle.zv_map2d.specs.Views.{Row, rows_seen}
+use Rattle.zv_map2d.proofs.Common.{length, ◌∙◌, ap, arith, length_push}
 use Rattle.zv_map2d.proofs.RowIters.{seen_last}
 use Rattle.zv_map2d.proofs.rows.ZeroMap2dIter0DoubleEndedIterator.next_back.Goals as goal
 
 pub returns-clause-steps : goal.returns-clause-steps
-returns-clause-steps g c =
-    let it = c.args.self.now in
-    let m = rows_in it.map in
-    let more : it.next < it.end = omega arith in
-    seen_last m it.next it.end more ∙ ap (λ (r : Row). rows_seen m it.next (it.end - 1 - it.next) ++ r ∷ []) (sym c.cursor.ensures)
+returns-clause-steps g c = rw c.cursor.ensures (seen_last _ c.args.self.now.next c.args.self.now.end (omega arith))
 
 pub returns-clause-goes : goal.returns-clause-goes
 returns-clause-goes g c =

@@ -1,7 +1,7 @@
 use Rattle.std.proofs.Common.{rules}
 use Rattle.std.specs.Char.{encode_utf8}
 use Rattle.std.specs.Str.{chars, is_utf8}
-use Rattle.zv_map2d.proofs.laws.worked_images.Goals as goal
+use Rattle.zv_map2d_laws.proofs.worked_images.Goals as goal
 
 -- each by computing
 pub returns : goal.returns

@@ -1,19 +1,20 @@
 -- A map in two levels is a finite map: what is found after a change, and which maps are the same.
 -- Keys are one key where they compare Equal.
-use Rattle.std.specs.Prelude.{◌≡◌, ◌&&◌, false, Option, Some, None}
+use Rattle.std.specs.Prelude.{◌≡◌, ◌&&◌, false, List, [], Option, Some, None}
 use Rattle.std.specs.Cmp.{IsTotalOrder}
 use Rattle.std.specs.Ordering.{is_eq}
 use Rattle.std.specs.declared.cmp.Ordering.{Ordering}
 use Rattle.std.specs.declared.cmp.Ordering.TheVariants.{Equal}
-use Rattle.std.specs.List.{AllByRecursion}
 use Rattle.std.specs.Option.{option_and_then}
 use Rattle.zv_ule.specs.declared.error.UleError.{UleError}
 use Rattle.zv_ule.specs.Kinds.{EqualIsSame}
 use Rattle.zv_map.specs.Keys.{IsElementOf}
 use Rattle.zv_map.specs.Maps.{look_up}
+use Rattle.zv_map2d.specs.Appending.{Triple, last_given, put_all}
+use Rattle.zv_map2d.specs.Elements.{AreElements}
 use Rattle.zv_map2d.specs.Image.{by_bytes}
 use Rattle.zv_map2d.specs.Keys.{Bytes}
-use Rattle.zv_map2d.specs.Rows.{Rows, IsWell, firsts, seconds, find, put, del}
+use Rattle.zv_map2d.specs.Rows.{Rows, IsWell, find, put, del}
 
 -- j0 and j1 are another pair of keys than k0 and k1
 abbrev pub IsOther : (Bytes → Bytes → Ordering) → (Bytes → Bytes → Ordering) → Bytes → Bytes →
@@ -37,6 +38,12 @@ abbrev pub PutLeavesOthers : Type 0
 PutLeavesOthers = (order0 order1 : Bytes → Bytes → Ordering) → IsTotalOrder order0 →
     IsTotalOrder order1 → (m : Rows) (k0 k1 v j0 j1 : Bytes) → IsOther order0 order1 k0 k1 j0 j1 →
     find order0 order1 (put order0 order1 m k0 k1 v) j0 j1 ≡ find order0 order1 m j0 j1
+
+-- a map that is made of triples has for each pair of keys the last value that was given
+abbrev pub KeepsLast : Type 0
+KeepsLast = (order0 order1 : Bytes → Bytes → Ordering) → IsTotalOrder order0 →
+    IsTotalOrder order1 → (ts : List Triple) (k0 k1 : Bytes) →
+    find order0 order1 (put_all order0 order1 [] ts) k0 k1 ≡ last_given order0 order1 ts k0 k1
 
 -- what a put leaves is well formed
 abbrev pub PutIsWell : Type 0
@@ -66,11 +73,6 @@ DelIsWell = (order0 order1 : Bytes → Bytes → Ordering) → IsTotalOrder orde
 -- texts and byte strings that compare Equal are the same
 abbrev pub TextsAreExact : Type 0
 TextsAreExact = (a b : Bytes) → by_bytes a b ≡ Equal → a ≡ b
-
--- each key is an element
-pub record AreElements (fault0 fault1 : Bytes → Option UleError) (m : Rows) : Type 0 where
-  pub firsts : AllByRecursion (IsElementOf fault0) (firsts m)
-  pub seconds : AllByRecursion (IsElementOf fault1) (seconds m)
 
 -- where elements of both kinds of keys that compare Equal are the same bytes, well formed maps in
 -- which the same is found are the same

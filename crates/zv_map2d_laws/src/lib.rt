@@ -1,17 +1,20 @@
-// What images and changes mean: worked ones, and laws.
-ghost use Rattle.zv_map2d.specs.Appending.{KeepsLast};
-ghost use Rattle.zv_map2d.specs.Changes.{FirstPair, KeysThere, LongValues, MissingPair};
-ghost use Rattle.zv_map2d.specs.Changes.{NewFirstRow, NewPair, OneOfTwo, OnlyPair, OtherValue};
-ghost use Rattle.zv_map2d.specs.FiniteMap.{DelIsGone, DelIsWell, DelLeavesOthers, FoundAlike};
-ghost use Rattle.zv_map2d.specs.FiniteMap.{FoundInRow};
-ghost use Rattle.zv_map2d.specs.FiniteMap.{PutIsFound, PutIsWell, PutLeavesOthers, TextsAreExact};
-ghost use Rattle.zv_map2d.specs.ImageRows.{Alone, Counts, Empty, Ends, Finds, Lengths, Neighbours};
-ghost use Rattle.zv_map2d.specs.ImageRows.{NoFrame, OnePair, OtherSpellings, OwnErrors, Prefixes};
-ghost use Rattle.zv_map2d.specs.ImageRows.{Texts, TwoRows};
-ghost use Rattle.zv_map2d.specs.Laws.{CanonAgain, CanonStands, DelCodable, DelKeeps, EmptyStands};
-ghost use Rattle.zv_map2d.specs.Laws.{FitsAlike, FrameExactly, IsReadExactly, OneImage, PutCodable};
-ghost use Rattle.zv_map2d.specs.Laws.{PutKeeps, SameCanon, StandsForOne};
-ghost use Rattle.zv_map2d.specs.Locales.{Locales};
+//! What maps in two levels and their images mean: worked ones, and laws.
+//!
+//! Each function does nothing, and its contract is what it says.
+#![tactic(auto)]
+
+ghost use Rattle.zv_map2d_laws.specs.Changes.{FirstPair, KeysThere, LongValues, MissingPair};
+ghost use Rattle.zv_map2d_laws.specs.Changes.{NewFirstRow, NewPair, OneOfTwo, OnlyPair, OtherValue};
+ghost use Rattle.zv_map2d_laws.specs.FiniteMap.{DelIsGone, DelIsWell, DelLeavesOthers, FoundAlike};
+ghost use Rattle.zv_map2d_laws.specs.FiniteMap.{FoundInRow, KeepsLast, PutIsFound, PutIsWell};
+ghost use Rattle.zv_map2d_laws.specs.FiniteMap.{PutLeavesOthers, TextsAreExact};
+ghost use Rattle.zv_map2d_laws.specs.ImageRows.{Alone, Counts, Empty, Ends, Finds, Lengths};
+ghost use Rattle.zv_map2d_laws.specs.ImageRows.{Neighbours, NoFrame, OnePair, OtherSpellings};
+ghost use Rattle.zv_map2d_laws.specs.ImageRows.{OwnErrors, Prefixes, Texts, TwoRows};
+ghost use Rattle.zv_map2d_laws.specs.Laws.{CanonAgain, CanonStands, DelCodable, DelKeeps};
+ghost use Rattle.zv_map2d_laws.specs.Laws.{EmptyStands, FitsAlike, FrameExactly, IsReadExactly};
+ghost use Rattle.zv_map2d_laws.specs.Laws.{OneImage, PutCodable, PutKeeps, SameCanon, StandsForOne};
+ghost use Rattle.zv_map2d_laws.specs.Locales.{Locales};
 
 /// Worked images. It does nothing.
 pub fn worked_images()

@@ -10,8 +10,8 @@ use Rattle.zv_map.proofs.Places.{equal_of, look_up-insert_entry, look_up-without
 use Rattle.zv_map.specs.Maps.{IsMap, keys_of, values_of, look_up, insert_entry, without_key}
 use Rattle.zv_ule.specs.Kinds.{EqualIsSame}
 use Rattle.zv_ule.specs.declared.error.UleError.{UleError}
-use Rattle.zv_map2d.specs.Appending.{KeepsLast, Triple, last_given, put_all}
-use Rattle.zv_map2d.specs.FiniteMap.{PutIsFound, PutLeavesOthers, DelIsGone, DelLeavesOthers, FoundAlike, FoundInRow}
+use Rattle.zv_map2d.specs.Appending.{Triple, last_given, put_all}
+use Rattle.zv_map2d_laws.specs.FiniteMap.{KeepsLast, PutIsFound, PutLeavesOthers, DelIsGone, DelLeavesOthers, FoundAlike, FoundInRow}
 use Rattle.zv_map.specs.Keys.{IsElementOf}
 use Rattle.zv_map2d.specs.Keys.{Bytes, Order}
 use Rattle.zv_map2d.specs.Rows.{Rows, IsRow, IsWell, seconds, row, find, put, with_row, del}

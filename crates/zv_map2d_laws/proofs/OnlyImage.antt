@@ -1,7 +1,7 @@
 -- A map that isn't empty has one image.
 use Rattle.std.proofs.Common.{◌≡◌, ℕ, List, [], ◌∷◌, refl, ◌∙◌, arith}
 use Rattle.zv_map2d.specs.Keys.{Bytes}
-use Rattle.zv_map2d.specs.Laws.{OneImage}
+use Rattle.zv_map2d_laws.specs.Laws.{OneImage}
 use Rattle.zv_map2d.specs.Rows.{Rows}
 use Rattle.zv_map2d.specs.Image.{Stands, canon}
 

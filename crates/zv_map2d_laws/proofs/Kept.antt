@@ -8,7 +8,7 @@ use Rattle.std.proofs.lemmas.List.Elements.{All-append, All-drop, All-from_recur
 use Rattle.std.specs.List.{insert, remove}
 use Rattle.std.specs.List.Sorted.{IsStrictlySortedBy}
 use Rattle.zv_map.specs.Maps.{keys_of, set_value_at}
-use Rattle.zv_map.proofs.Places.{at_within, gap_within, keys_with, values_with}
+use Rattle.zv_map.proofs.Places.{at_within, by_place, gap_within, keys_with, values_with}
 use Rattle.zv_ule.specs.Kinds.{text_fault}
 use Rattle.zv_var.specs.Format.{codable}
 use Rattle.zv_var.proofs.Encoding.{codable_from_Part}
@@ -16,20 +16,32 @@ use Rattle.zv_owned.proofs.Codable.{insert_codable, replace_codable, remove_coda
 use Rattle.zv_owned.specs.Size.{takes_insert, takes_replace}
 use Rattle.zv_map2d.specs.Fits.{fits_texts, texts_rule}
 use Rattle.zv_map2d.specs.Keys.{Bytes}
-use Rattle.zv_map2d.specs.Rows.{Rows, firsts, seconds, values, IsFlat, IsWell, del, before, row, row_at}
+use Rattle.zv_map2d.specs.Rows.{Rows, firsts, seconds, values, ends, IsFlat, IsWell, del, before, row, row_at}
 use Rattle.zv_map2d.specs.Image.{by_bytes, AreTexts, Stands, canon}
-use Rattle.zv_map2d.specs.Laws.{CanonAgain, DelCodable, DelKeeps, EmptyStands, FitsAlike, IsCodable, PutCodable, PutKeeps, SameCanon}
+use Rattle.zv_map2d_laws.specs.Laws.{CanonAgain, DelCodable, DelKeeps, EmptyStands, FitsAlike, IsCodable, PutCodable, PutKeeps, SameCanon}
 use Rattle.zv_map2d.specs.Places.{IsPlace, del_at, fits_at, put_at}
 use Rattle.zv_map2d.specs.declared.place.Place.{Place}
 use Rattle.zv_map2d.specs.declared.place.Place.TheVariants.{Pair, InRow, NewRow}
 use Rattle.zv_map2d.proofs.Splices.{row_added, row_removed, pair_added, pair_removed, start_within, value_set}
-use Rattle.zv_map2d.proofs.FiniteMap.{keys_rows, rows_keys}
-use Rattle.zv_map2d.proofs.Flat.{pair_within, place_within}
-use Rattle.zv_map2d.proofs.Places.{del_is, fits_by_is, fits_is, place_of, put_is}
-use Rattle.zv_map2d.proofs.Seen.{own}
-use Rattle.zv_map2d.proofs.Standing.{none_from_stands, one_map, canon_stands}
-use Rattle.zv_map2d.proofs.OnlyImage.{one_image}
+use Rattle.zv_map2d_laws.proofs.FiniteMap.{keys_rows, rows_keys}
+use Rattle.zv_map2d.proofs.Flat.{pair_within, place_within, row_well}
+use Rattle.zv_map2d.proofs.Places.{del_is, fits_by_is, fits_is, put_is}
+use Rattle.zv_map2d_laws.proofs.Standing.{none_from_stands, one_map, canon_stands}
+use Rattle.zv_map2d_laws.proofs.OnlyImage.{one_image}
 use Rattle.zv_map2d.proofs.Well.{put_well, del_well, row_holds}
+
+-- ---- the place of a pair of keys
+
+-- each pair of keys has a place
+place_of : (m : Rows) (k0 k1 : Bytes) → IsWell by_bytes by_bytes m → (p : Place) × IsPlace by_bytes by_bytes m k0 k1 p
+place_of m k0 k1 well = by_place total k0 (firsts m) well.0 ((p : Place) × IsPlace by_bytes by_bytes m k0 k1 p)
+    (λ i at. by_place total k1 (keys_of (row_at m i)) (row_well by_bytes m i well.1 (at_within by_bytes k0 m i at)).1
+    ((p : Place) × IsPlace by_bytes by_bytes m k0 k1 p) (λ j hit. (Pair i j, (at, hit))) (λ j gap. (InRow i j, (at, gap))))
+    (λ i gap. (NewRow i, gap))
+
+-- the lists of a map are its own
+own : (m : Rows) → IsFlat (firsts m) (ends m) (seconds m) (values m) m
+own m = record { firsts_are = refl; ends_are = refl; seconds_are = refl; values_are = refl }
 
 -- ---- which lists a change leaves
 
@@ -60,7 +72,7 @@ module _ (Q : List Bytes → List Bytes → List Bytes → Type 0) where
 
     by_removal : IsWell by_bytes by_bytes m → OfLists (del by_bytes by_bytes m k0 k1)
     by_removal well =
-        let p = place_of total total m k0 k1 well in
+        let p = place_of m k0 k1 well in
         subst OfLists (sym (del_is total total m k0 k1 well p.0 p.1)) (taken p.0 p.1)
 
 -- ---- texts
@@ -104,7 +116,7 @@ fits_there m k0 k1 v (NewRow i) h = fits_by_is total total m k0 k1 (λ old. take
 
 pub fits_alike : FitsAlike
 fits_alike m k0 k1 v well =
-    let p = place_of total total m k0 k1 well in
+    let p = place_of m k0 k1 well in
     fits_is total total m k0 k1 texts_rule v p.0 p.1 ∙ sym (fits_there m k0 k1 v p.0 p.1)
 
 more : (xs : List Bytes) (i : ℕ) (e : Bytes) → i ≤ length xs → takes_insert 2 xs (length e) ≡ true → codable 2 (insert xs i e) ≡ true
@@ -138,7 +150,7 @@ put_there m k0 k1 v c (NewRow i) h fit =
 
 pub put_codable : PutCodable
 put_codable m k0 k1 v t c fit =
-    let p = place_of total total m k0 k1 t.in_order in
+    let p = place_of m k0 k1 t.in_order in
     let three = subst (OfLists AreCodable) (sym (put_is total total m k0 k1 v p.0 p.1)) (put_there m k0 k1 v c p.0 p.1
     (sym (fits_there m k0 k1 v p.0 p.1) ∙ fit)) in
     record { keys0 = three.0; keys1 = three.1; values = three.2 }

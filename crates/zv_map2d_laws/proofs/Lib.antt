@@ -1,0 +1,5 @@
+pub mod Checks
+pub mod FiniteMap
+pub mod Kept
+pub mod OnlyImage
+pub mod Standing

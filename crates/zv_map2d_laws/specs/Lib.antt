@@ -1,0 +1,5 @@
+pub mod Changes
+pub mod FiniteMap
+pub mod ImageRows
+pub mod Laws
+pub mod Locales
