@@ -34,8 +34,7 @@ module _ {U : Type 0} {n : ℕ} {pattern : List ℕ} {is_u : U → Type 0} {w : 
       (record { each = niche.each; long = niche.long; good = rw same refl }, rw same refl)
   niche_writes (Some u) h =
       let p = s.writes u h in
-      let no = not_pattern niche (c u) (bytes_eq (c u) pattern) refl p.good in
-      (
+      let no = not_pattern niche (c u) (bytes_eq (c u) pattern) refl p.good in (
         record { each = p.each; long = p.long; good = rw no p.good },
         rw no (ap Some (s.back u h)),
       )

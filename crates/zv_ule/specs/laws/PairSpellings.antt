@@ -27,8 +27,7 @@ both_spelling {wa = wa} {fa = fa} {ca = ca} s {wb = wb} {fb = fb} {cb = cb} t =
     let parts : (b : List ℕ) → IsChunk (wa + wb) (pair_fault wa fa fb) b →
     IsChunk wa fa (take wa b) × IsChunk wb fb (drop wa b) = λ b h.
     let le : wa ≤ length b = omega (arith, h.long) in
-    let good = or_none (fa (take wa b)) (fb (drop wa b)) h.good in
-    (
+    let good = or_none (fa (take wa b)) (fb (drop wa b)) h.good in (
       record { each = front_bytes wa b h.each le; long = length-take-le wa b le; good = good.0 },
       record {
         each = back_bytes wa b h.each;
