@@ -1,36 +1,21 @@
 -- What a line's words say of its command: it is no larger than they are, and its keys are texts.
-use Rattle.std.proofs.Common.{◌≡◌, ℕ, suc, ◌+◌, ◌*◌, ◌<◌, ◌≤◌, ◌==◌, List, [], ◌∷◌, length, Bool, true, false, refl, arith, Some, None, Ok, Err, codes}
-use Rattle.std.specs.Prelude.{IfSome, Result, bytes_eq, if◌then◌else◌, sum_by}
-use Rattle.std.specs.List.{onto_first}
-use Rattle.std.specs.Result.{result_ok}
-use Rattle.std.specs.Str.{is_utf8}
-use Rattle.std.specs.declared.option.Option.{Option}
-use Rattle.std.proofs.lemmas.List.Splits.{length-slice_split}
-use Rattle.std.proofs.lemmas.List.Sums.{sum_by-cons}
-use Rattle.memchr.specs.Find.{is_byte}
-use Rattle.hex.specs.Hex.{decode_of}
-use Rattle.hex.proofs.HexLemmas.{decode_of-ok}
+use Rattle.zv_tool.proofs.Common.{◌≡◌, ℕ, suc, ◌+◌, ◌*◌, ◌<◌, ◌≤◌, ◌==◌, List, [], ◌∷◌, length, Bool, true, false, refl, arith, Some, None, Ok, Err, codes}
+use Rattle.zv_tool.proofs.Common.{IfSome, Result, if◌then◌else◌, onto_first, result_ok, Option, length-slice_split, sum_by-cons, is_byte, decode_of}
+use Rattle.zv_tool.proofs.Common.{decode_of-ok, Command, Get, Put, Del, Row, command_size, ◌>>=◌, bytes_of_digits, words, field, key, command_of_words, OfTexts}
+use Rattle.zv_tool.proofs.Common.{first_of, bytes_eq, sum_by, get, del, row, two_words, first_keys, if_last}
 use Rattle.zv_ule.specs.Kinds.{text_fault}
-use Rattle.zv_tool.specs.declared.command.Command.{Command}
-use Rattle.zv_tool.specs.declared.command.Command.TheVariants.{Get, Put, Del, Row}
-use Rattle.zv_tool.specs.Commands.{command_size}
-use Rattle.zv_tool.specs.Digits.{◌>>=◌, bytes_of_digits}
-use Rattle.zv_tool.specs.Input.{words, field, key, get, put, del, row, two_words, command_of_words}
-use Rattle.zv_tool.specs.Laws.{OfTexts}
-use Rattle.zv_tool.specs.Parser.{first_keys, first_of, if_last}
+use Rattle.zv_tool.specs.Input.{put}
 
 -- ---- options
 
 -- what holds of a value that two steps give
 if_bound : {A B : Type 0} (o : Option A) (f : A → Option B) (P : A → Type 0) (Q : B → Type 0) → IfSome o P → ((x : A) → P x → IfSome (f x) Q)
     → IfSome (o >>= f) Q
-if_bound (Some x) f P Q first second = second x first
-if_bound None f P Q first second = tt
+if_bound o f P Q first second = grind arith
 
 -- or that a choice gives
 if_chosen : {A : Type 0} (t : Bool) (x y : Option A) (P : A → Type 0) → IfSome x P → IfSome y P → IfSome (if t then x else y) P
-if_chosen true x y P one other = one
-if_chosen false x y P one other = other
+if_chosen t x y P one other = grind arith
 
 -- ---- fields
 
@@ -51,11 +36,7 @@ abbrev IsKeyOf : List ℕ → List ℕ → Type 0
 IsKeyOf word text = IsFieldOf word text × (text_fault text ≡ None)
 
 key_is : (word : List ℕ) → IfSome (key word) (IsKeyOf word)
-key_is word = if_bound (field word) _ (IsFieldOf word) (IsKeyOf word) (field_is word) (λ bytes long. by bytes (is_utf8 bytes) refl long)
-  where
-    by : (bytes : List ℕ) (t : Bool) → is_utf8 bytes ≡ t → IsFieldOf word bytes → IfSome (if t then Some bytes else None) (IsKeyOf word)
-    by bytes true is long = (long, rw is refl)
-    by bytes false is long = tt
+key_is word = let long = field_is word in grind arith
 
 -- ---- commands
 
@@ -63,29 +44,17 @@ abbrev pub IsCommandOf : List (List ℕ) → Command → Type 0
 IsCommandOf ws c = (command_size c ≤ sum_by length ws) × OfTexts c
 
 module _ (name : List ℕ) where
-  of_keys : (a b : List ℕ) (C : List ℕ → List ℕ → Command) → ((k l : List ℕ) → IsKeyOf a k → IsKeyOf b l → IsCommandOf (name ∷ a ∷ b ∷ []) (C k l))
-      → IfSome (key a >>= (λ k. key b >>= (λ l. Some (C k l)))) (IsCommandOf (name ∷ a ∷ b ∷ []))
-  of_keys a b C is =
+  two_is : (C : List ℕ → List ℕ → Command) → ((a b k l : List ℕ) → IsKeyOf a k → IsKeyOf b l → IsCommandOf (name ∷ a ∷ b ∷ []) (C k l))
+      → (fields : List (List ℕ)) → IfSome (two_words fields >>= (λ p. key p.0 >>= (λ k. key p.1 >>= (λ l. Some (C k l))))) (IsCommandOf (name ∷ fields))
+  two_is C is (a ∷ b ∷ []) =
       if_bound (key a) (λ k. key b >>= (λ l. Some (C k l))) (IsKeyOf a) _ (key_is a)
-      (λ k m. if_bound (key b) (λ l. Some (C k l)) (IsKeyOf b) _ (key_is b) (λ l n. is k l m n))
-
-  get_is : (fields : List (List ℕ)) → IfSome (get fields) (IsCommandOf (name ∷ fields))
-  get_is (a ∷ b ∷ []) = of_keys a b Get (λ k l m n. (omega (arith, m.0, n.0), (m.1, n.1)))
-  get_is [] = tt
-  get_is (a ∷ []) = tt
-  get_is (a ∷ b ∷ c ∷ rest) = tt
-
-  del_is : (fields : List (List ℕ)) → IfSome (del fields) (IsCommandOf (name ∷ fields))
-  del_is (a ∷ b ∷ []) = of_keys a b Del (λ k l m n. (omega (arith, m.0, n.0), (m.1, n.1)))
-  del_is [] = tt
-  del_is (a ∷ []) = tt
-  del_is (a ∷ b ∷ c ∷ rest) = tt
+      (λ k m. if_bound (key b) (λ l. Some (C k l)) (IsKeyOf b) _ (key_is b) (λ l n. is a b k l m n))
+  two_is C is [] = tt
+  two_is C is (a ∷ []) = tt
+  two_is C is (a ∷ b ∷ c ∷ rest) = tt
 
   put_is : (fields : List (List ℕ)) → IfSome (put fields) (IsCommandOf (name ∷ fields))
-  put_is (a ∷ b ∷ c ∷ []) =
-      if_bound (key a) (λ k. key b >>= (λ l. field c >>= (λ v. Some (Put k l v)))) (IsKeyOf a) (IsCommandOf (name ∷ a ∷ b ∷ c ∷ [])) (key_is a)
-      (λ k m. if_bound (key b) (λ l. field c >>= (λ v. Some (Put k l v))) (IsKeyOf b) _ (key_is b)
-      (λ l n. if_bound (field c) (λ v. Some (Put k l v)) (IsFieldOf c) _ (field_is c) (λ v o. (omega (arith, m.0, n.0, o), (m.1, n.1)))))
+  put_is (a ∷ b ∷ c ∷ []) = let k = key_is a in let l = key_is b in let v = field_is c in grind arith
   put_is [] = tt
   put_is (a ∷ []) = tt
   put_is (a ∷ b ∷ []) = tt
@@ -100,9 +69,9 @@ pub command_is : (ws : List (List ℕ)) → IfSome (command_of_words ws) (IsComm
 command_is [] = tt
 command_is (name ∷ fields) =
     let P = IsCommandOf (name ∷ fields) in
-    if_chosen (bytes_eq name (codes "get")) (get fields) _ P (get_is name fields)
+    if_chosen (bytes_eq name (codes "get")) (get fields) _ P (two_is name Get (λ a b k l m n. (omega (arith, m.0, n.0), (m.1, n.1))) fields)
     (if_chosen (bytes_eq name (codes "put")) (put fields) _ P (put_is name fields)
-    (if_chosen (bytes_eq name (codes "del")) (del fields) _ P (del_is name fields)
+    (if_chosen (bytes_eq name (codes "del")) (del fields) _ P (two_is name Del (λ a b k l m n. (omega (arith, m.0, n.0), (m.1, n.1))) fields)
     (if_chosen (bytes_eq name (codes "row")) (row fields) None P (row_is name fields) tt)))
 
 -- ---- lines

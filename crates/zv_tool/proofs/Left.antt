@@ -1,20 +1,13 @@
 -- What commands leave of a map of texts that can be written is one again.
-use Rattle.std.proofs.Common.{◌≡◌, ℕ, ◌+◌, Bool, true, false, List, [], ◌∷◌, refl, Some, None, Ok, Err}
-use Rattle.std.specs.Prelude.{IfOk, IfSome, Result, if◌then◌else◌}
-use Rattle.std.specs.List.{AllByRecursion}
-use Rattle.std.specs.declared.option.Option.{Option}
+use Rattle.zv_tool.proofs.Common.{◌≡◌, ℕ, ◌+◌, Bool, true, false, List, [], ◌∷◌, refl, Some, None, Ok, Err, IfSome, Result, if◌then◌else◌, Option, fits_texts}
+use Rattle.zv_tool.proofs.Common.{by_bytes, Rows, Command, Get, Put, Del, Row, last, next, commands, command_and, command_of_words, field, image_and, lines}
+use Rattle.zv_tool.proofs.Common.{parse_lines, words, OfTexts, IfOk, AllByRecursion, IsTextMap, put_texts, del_texts, put_codable, del_codable, KeysAreTexts}
+use Rattle.zv_tool.proofs.Common.{LeftStands}
+use Rattle.zv_tool.specs.Input.{parse_input}
 use Rattle.zv_var.specs.Format.{Part, codable}
-use Rattle.zv_map2d.specs.Fits.{fits_texts}
-use Rattle.zv_map2d.specs.Image.{IsTextMap, by_bytes}
 use Rattle.zv_map2d_laws.specs.Laws.{IsCodable}
-use Rattle.zv_map2d.specs.Rows.{Rows, put}
-use Rattle.zv_map2d_laws.proofs.Kept.{put_texts, del_texts, put_codable, del_codable}
+use Rattle.zv_map2d.specs.Rows.{put}
 use Rattle.zv_map2d_laws.proofs.Standing.{canon_stands}
-use Rattle.zv_tool.specs.declared.command.Command.{Command}
-use Rattle.zv_tool.specs.declared.command.Command.TheVariants.{Get, Put, Del, Row}
-use Rattle.zv_tool.specs.Answers.{last, next}
-use Rattle.zv_tool.specs.Input.{commands, command_and, command_of_words, field, image_and, lines, parse_input, parse_lines, words}
-use Rattle.zv_tool.specs.Laws.{OfTexts, KeysAreTexts, LeftStands}
 use Rattle.zv_tool.proofs.Fields.{IsCommandOf, command_is}
 
 -- ---- keys are texts

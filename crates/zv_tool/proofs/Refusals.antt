@@ -1,15 +1,8 @@
 -- What the program owes for an image, by its fault.
-use Rattle.std.proofs.Common.{◌≡◌, ◌∙◌, List, ℕ, Some, None, ap, sym, subst}
-use Rattle.std.specs.Prelude.{MatchOption}
-use Rattle.std.specs.declared.option.Option.{Option}
-use Rattle.zv_map2d.specs.Image.{Stands, by_bytes, fault}
-use Rattle.zv_map2d.specs.Rows.{Rows, find}
+use Rattle.zv_tool.proofs.Common.{◌≡◌, ◌∙◌, List, ℕ, Some, None, ap, sym, subst, Option, Stands, by_bytes, fault, Rows, find, Command, Done, BadImage, IsAnswer}
+use Rattle.zv_tool.proofs.Common.{cause_line, MatchOption, found_line, IsLooked, status_of_fault}
+use Rattle.zv_tool.specs.Program.{LookedText, ImageText, status_of_image}
 use Rattle.zv_map2d.specs.declared.error.EditError.{EditError}
-use Rattle.zv_tool.specs.declared.command.Command.{Command}
-use Rattle.zv_tool.specs.declared.status.Status.TheVariants.{Done, BadImage}
-use Rattle.zv_tool.specs.Answers.{IsAnswer}
-use Rattle.zv_tool.specs.Output.{cause_line, found_line}
-use Rattle.zv_tool.specs.Program.{ImageText, IsLooked, LookedText, status_of_fault, status_of_image}
 
 -- a text by the fault that is found, whatever the fault's definition
 text_by : (f g : Option EditError) (P : Type 0) (text : List ℕ) → f ≡ g → MatchOption g P (λ cause. text ≡ cause_line cause)

@@ -1,9 +1,6 @@
 -- Commands, one after another.
-use Rattle.std.proofs.Common.{◌≡◌, ℕ, suc, zero, ◌+◌, ◌<◌, ◌∙◌, List, [], ◌∷◌, drop, take, length, get_or, sym, ap, Result, Ok, Err, OnErr}
-use Rattle.std.proofs.lemmas.List.{drop_more}
-use Rattle.zv_map2d.specs.Rows.{Rows}
-use Rattle.zv_tool.specs.declared.command.Command.{Command}
-use Rattle.zv_tool.specs.Answers.{next, last}
+use Rattle.zv_tool.proofs.Common.{◌≡◌, ℕ, suc, zero, ◌+◌, ◌<◌, ◌∙◌, List, [], ◌∷◌, drop, take, length, get_or, sym, ap, Result, Ok, Err, OnErr, Rows, Command}
+use Rattle.zv_tool.proofs.Common.{next, last, drop_more}
 
 -- the commands from a place on
 pub ahead : (cs : List Command) (i : ℕ) (c : Command) → i < length cs → c ≡ get_or cs i c → drop i cs ≡ c ∷ drop (i + 1) cs

@@ -1,9 +1,5 @@
-use Rattle.std.proofs.Common.{◌≡◌, ◌++◌, rules}
-use Rattle.hex.specs.Hex.{encode_lower}
-use Rattle.zv_map2d.specs.Frame.{frame}
-use Rattle.zv_map2d.specs.Views.{bytes_of}
+use Rattle.zv_tool.proofs.Common.{◌≡◌, ◌++◌, rules, encode_lower, frame, bytes_of, framed}
 use Rattle.zv_map2d.specs.declared.parts.Parts.{Parts}
-use Rattle.zv_var.specs.Frame.{framed}
 use Rattle.zv_tool.proofs.HexText.{encode_four}
 use Rattle.zv_tool.proofs.Sending.{sends_as, sends_cut, sends_then}
 use Rattle.zv_tool.proofs.serving.write_parts.Goals as goal
