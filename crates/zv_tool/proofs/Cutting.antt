@@ -1,9 +1,9 @@
 -- The pieces of a text: its first piece, its lines and its words.
-use Rattle.zv_tool.proofs.Common.{◌≡◌, ℕ, ◌+◌, ◌-◌, ◌<◌, ◌≤◌, ◌==◌, List, [], ◌∷◌, ◌++◌, length, get_or, take, drop, Bool, true, false, refl, sym, ap, ◌∙◌}
-use Rattle.zv_tool.proofs.Common.{subst, arith, Some, None, append_assoc, add-one, Option, if◌then◌else◌, onto_first, slice_split, eqb-true, take_all}
-use Rattle.zv_tool.proofs.Common.{take_rest, length-take, slice_split_at, slice_split_none, length-slice_split, is_byte, ◌>>=◌, field, key, lines, words, Lacks}
-use Rattle.zv_tool.proofs.Common.{first_of, eq-eqb, option_and_then, split_at, get_or-take, false_from_ne_true, All-append, All-from_get_or, content_of}
-use Rattle.zv_tool.proofs.Common.{without_empty_last, after_mark, words_after}
+use Rattle.zv_tool.proofs.Common.{◌≡◌, ℕ, ◌+◌, ◌-◌, ◌<◌, ◌≤◌, List, [], ◌∷◌, ◌++◌, length, get_or, take, drop, true, false, refl, sym, ap, ◌∙◌, subst, arith}
+use Rattle.zv_tool.proofs.Common.{Some, None, append_assoc, add-one, Option, slice_split, eqb-true, take_all, take_rest, length-take, slice_split_at}
+use Rattle.zv_tool.proofs.Common.{slice_split_none, length-slice_split, is_byte, ◌>>=◌, field, key, lines, words, Lacks, first_of, eq-eqb, option_and_then}
+use Rattle.zv_tool.proofs.Common.{split_at, get_or-take, false_from_ne_true, All-append, All-from_get_or, content_of, without_empty_last, after_mark}
+use Rattle.zv_tool.proofs.Common.{words_after}
 
 module _ (byte : ℕ) (text : List ℕ) where
   -- no byte is this one before the first
@@ -26,8 +26,7 @@ module _ (byte : ℕ) (text : List ℕ) where
 
 -- a piece before others is kept
 kept : (piece : List ℕ) (rest : List (List ℕ)) → 0 < length rest → without_empty_last (piece ∷ rest) ≡ piece ∷ without_empty_last rest
-kept piece [] some = absurd (omega arith)
-kept piece (next ∷ rest) some = refl
+kept piece rest some = grind arith
 
 -- a line and its LF
 pub line_and : (line rest : List ℕ) → Lacks 10 line → lines (line ++ 10 ∷ rest) ≡ line ∷ lines rest
@@ -45,8 +44,7 @@ line_of_parts tail piece more rest after lacks_tail lacks_more is =
 
 -- a line with no LF
 pub last_line : (line : List ℕ) → Lacks 10 line → 0 < length line → lines line ≡ line ∷ []
-last_line [] lacks some = absurd (omega arith)
-last_line (b ∷ rest) lacks some = ap without_empty_last (slice_split_none (is_byte 10) (b ∷ rest) lacks)
+last_line line lacks some = let whole = slice_split_none (is_byte 10) line lacks in grind arith
 
 -- ---- words
 
@@ -61,21 +59,9 @@ word_and text len within space lacks = split_around 32 text len lacks (cut_aroun
 
 -- what a reading of fields by their digits gives at the first word of a text
 module _ {A : Type 0} (read inner : List ℕ → Option A) (is : (word : List ℕ) → read word ≡ (after_mark word >>= inner)) where
-  choose : (b : ℕ) (rest w : List ℕ) (ws : List (List ℕ)) (space mark : Bool) → (b == 32) ≡ space → (b == 120) ≡ mark → words rest ≡ w ∷ ws
-      → first_of read (if space then [] ∷ w ∷ ws else (b ∷ w) ∷ ws) ≡ ((if mark then Some rest else None) >>= (λ d. first_of inner (words d)))
-  choose b rest w ws true true s m whole = absurd (omega (arith, eqb-true b 32 s, eqb-true b 120 m))
-  choose b rest w ws true false s m whole = rw (is []) refl
-  choose b rest w ws false true s m whole = rw (is (b ∷ w), m, whole) refl
-  choose b rest w ws false false s m whole = rw (is (b ∷ w), m) refl
-
   first_marked : (text : List ℕ) → first_of read (words text) ≡ (after_mark text >>= (λ d. first_of inner (words d)))
   first_marked [] = rw (is []) refl
-  first_marked (b ∷ rest) = by (words rest) refl (omega (arith, length-slice_split (is_byte 32) rest))
-    where
-      by : (ws : List (List ℕ)) → words rest ≡ ws → 0 < length ws
-          → first_of read (if b == 32 then [] ∷ ws else onto_first b ws) ≡ (after_mark (b ∷ rest) >>= (λ d. first_of inner (words d)))
-      by [] whole some = absurd (omega arith)
-      by (w ∷ ws) whole some = choose b rest w ws (b == 32) (b == 120) refl refl whole
+  first_marked (b ∷ rest) = let some = length-slice_split (is_byte 32) rest in grind (arith, is)
 
   first_field : (text : Option (List ℕ)) (digits : List ℕ) → Some digits ≡ option_and_then after_mark text
       → first_of read (words_after text) ≡ first_of inner (words digits)
@@ -83,12 +69,10 @@ module _ {A : Type 0} (read inner : List ℕ → Option A) (is : (word : List �
   first_field (Some text) digits marked = first_marked text ∙ ap (λ o. o >>= (λ d. first_of inner (words d))) (sym marked)
 
 key_digits : (word : List ℕ) → key word ≡ (after_mark word >>= content_of 1)
-key_digits [] = refl
-key_digits (b ∷ digits) = grind arith
+key_digits word = grind arith
 
 field_digits : (word : List ℕ) → field word ≡ (after_mark word >>= content_of 0)
-field_digits [] = refl
-field_digits (b ∷ digits) = grind arith
+field_digits word = grind arith
 
 pub first_key : (text : Option (List ℕ)) (digits : List ℕ) → Some digits ≡ option_and_then after_mark text
     → first_of key (words_after text) ≡ first_of (content_of 1) (words digits)

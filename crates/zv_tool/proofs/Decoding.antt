@@ -1,9 +1,9 @@
 -- Hex digits that are read by a table, pair after pair.
 use Rattle.zv_tool.proofs.Common.{◌≡◌, ◌⊎◌, ℕ, ◌+◌, ◌*◌, ◌%◌, ◌<◌, ◌≤◌, ◌==◌, true, false, List, [], ◌∷◌, ◌++◌, replicate, take, drop, slice_index, slice_set}
 use Rattle.zv_tool.proofs.Common.{length, inl, inr, Option, Some, None, Ok, Err, refl, sym, ap, ◌∙◌, arith, append_assoc, Result, if◌then◌else◌, result_ok}
-use Rattle.zv_tool.proofs.Common.{eqb-true, append-nil, length-take, take-append-drop, is_byte, decode_of, decode_of-ok, bytes_of_digits, Lacks, unwrap_or}
-use Rattle.zv_tool.proofs.Common.{take_more, take_more_set, hex_digit_value, is_hex_digit, pair_value, decode_of-even, cons_byte, decode_pairs-err_pair}
-use Rattle.zv_tool.proofs.Common.{decode_pairs-ok_pair, prepend, prepend-cons_byte}
+use Rattle.zv_tool.proofs.Common.{eqb-true, append-nil, length-take, take-append-drop, decode_of, decode_of-ok, bytes_of_digits, Lacks, unwrap_or, take_more}
+use Rattle.zv_tool.proofs.Common.{take_more_set, hex_digit_value, pair_value, decode_of-even, cons_byte, decode_pairs-err_pair, decode_pairs-ok_pair, prepend}
+use Rattle.zv_tool.proofs.Common.{prepend-cons_byte}
 use Rattle.hex.specs.Hex.{decode_pairs}
 use Rattle.std.proofs.lemmas.Bool.Decides.{nat_tests}
 use Rattle.hex.specs.declared.error.FromHexError.{FromHexError}
@@ -93,9 +93,6 @@ read_so_far text place n within was =
 pub lacks_space : (digits bytes : List ℕ) → bytes_of_digits digits ≡ Some bytes → Lacks 32 digits
 lacks_space digits bytes is = by (decode_of digits) refl is
   where
-    no_space : (c : ℕ) → is_hex_digit c ≡ true → is_byte 32 c ≡ false
-    no_space c digit = grind (arith, nat_tests)
-
     by : (r : Result (List ℕ) FromHexError) → decode_of digits ≡ r → result_ok r ≡ Some bytes → Lacks 32 digits
-    by (Ok found) ok same = λ k d lt. no_space _ ((decode_of-ok digits found ok).1 k d lt)
+    by (Ok found) ok same = λ k d lt. let digit = (decode_of-ok digits found ok).1 k d lt in grind (arith, nat_tests)
     by (Err e) err same = cc

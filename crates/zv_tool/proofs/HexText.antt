@@ -1,6 +1,6 @@
 -- Hex digits of bytes after bytes.
-use Rattle.zv_tool.proofs.Common.{codes, ◌≡◌, ℕ, zero, suc, ◌+◌, ◌*◌, ◌/◌, ◌%◌, ◌<◌, ◌==◌, ◌&&◌, Bool, true, inl, inr, slice_index, List, [], ◌∷◌, ◌++◌, length}
-use Rattle.zv_tool.proofs.Common.{refl, ap, ◌∙◌, arith, and_parts, cases_lt, eqb-true, encode_lower, lower_digits}
+use Rattle.zv_tool.proofs.Common.{codes, ◌≡◌, ℕ, zero, suc, ◌+◌, ◌*◌, ◌/◌, ◌%◌, ◌<◌, ◌==◌, ◌&&◌, Bool, true, slice_index, List, [], ◌∷◌, ◌++◌, length, refl, ap}
+use Rattle.zv_tool.proofs.Common.{◌∙◌, arith, and_parts, eqb-true, encode_lower, lower_digits}
 use Rattle.hex.specs.Hex.{encode_with}
 
 encode_append : (t xs ys : List ℕ) → encode_with t (xs ++ ys) ≡ encode_with t xs ++ encode_with t ys
@@ -19,9 +19,6 @@ unfolding encode_with
 encode_none [] none = refl
 encode_none (b ∷ rest) none = absurd (omega arith)
 
-pub encode_four : (a b c d : List ℕ) → encode_lower (a ++ (b ++ (c ++ d))) ≡ encode_lower a ++ (encode_lower b ++ (encode_lower c ++ encode_lower d))
-encode_four a b c d = simp encode_lower_append
-
 -- ---- tables
 
 -- a test that every number below n passes
@@ -31,12 +28,7 @@ all_below test (suc n) = test n && all_below test n
 
 pub passes_below : (test : ℕ → Bool) (n k : ℕ) → all_below test n ≡ true → k < n → test k ≡ true
 passes_below test zero k all lt = absurd (omega arith)
-passes_below test (suc n) k all lt =
-    let parts = and_parts (test n) (all_below test n) all in
-    elim (cases_lt k n) [
-      | inl below ↦ passes_below test n k parts.1 below
-      | inr top ↦ let is : k ≡ n = omega arith in rw is parts.0
-    ]
+passes_below test (suc n) k all lt = let ih = passes_below test n k in grind arith
 
 -- whether a byte has its two digits in a table, one byte after another
 abbrev pub is_pair : List ℕ → ℕ → Bool

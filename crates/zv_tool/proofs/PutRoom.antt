@@ -1,6 +1,6 @@
 -- What is left of the room for puts.
-use Rattle.zv_tool.proofs.Common.{rules, ◌≡◌, ◌≤◌, List, [], ◌∷◌, ◌++◌, sym, ap, ◌∙◌, arith, add_assoc, add-zero, zero-add, sum_by-cons, Command, Get, Put, Del}
-use Rattle.zv_tool.proofs.Common.{Row, command_size, total_size, HasRoomOf, all_puts, put_sizes, sizes_of, total_of, Map2d, SpendsOf}
+use Rattle.zv_tool.proofs.Common.{rules, ◌≡◌, ◌≤◌, List, [], ◌∷◌, ◌++◌, arith, sum_by-cons, Command, command_size, total_size, HasRoomOf, all_puts, put_sizes}
+use Rattle.zv_tool.proofs.Common.{sizes_of, total_of, Map2d, SpendsOf}
 use Rattle.zv_tool.specs.declared.room.PutSizes.{PutSizes}
 
 -- room for more is room for fewer
@@ -13,19 +13,13 @@ room_for_rest a b m n room spent = search (rules, arith)
 
 -- puts are no larger than their commands
 pub one_within : (c : Command) → total_of (sizes_of c) ≤ command_size c
-one_within (Get k0 k1) = omega arith
-one_within (Put k0 k1 v) = omega arith
-one_within (Del k0 k1) = omega arith
-one_within (Row k0) = omega arith
+one_within c = grind arith
 
 pub puts_within : (cs : List Command) → total_of (put_sizes cs) ≤ total_size cs
 puts_within [] = omega arith
 puts_within (c ∷ cs) = omega (arith, one_within c, puts_within cs, sum_by-cons command_size c cs)
 
-all_puts_assoc : (a b c : PutSizes) → all_puts (all_puts a b) c ≡ all_puts a (all_puts b c)
-all_puts_assoc a b c = simp add_assoc
-
 -- one put more
 pub put_sizes_push : (cs : List Command) (c : Command) → put_sizes (cs ++ c ∷ []) ≡ all_puts (put_sizes cs) (sizes_of c)
-put_sizes_push [] c = simp (add-zero, zero-add)
-put_sizes_push (d ∷ cs) c = ap (all_puts (sizes_of d)) (put_sizes_push cs c) ∙ sym (all_puts_assoc (sizes_of d) (put_sizes cs) (sizes_of c))
+put_sizes_push [] c = grind arith
+put_sizes_push (d ∷ cs) c = let ih = put_sizes_push cs c in grind arith

@@ -1,5 +1,5 @@
 -- Commands, one after another.
-use Rattle.zv_tool.proofs.Common.{◌≡◌, ℕ, suc, zero, ◌+◌, ◌<◌, ◌∙◌, List, [], ◌∷◌, drop, take, length, get_or, sym, ap, Result, Ok, Err, OnErr, Rows, Command}
+use Rattle.zv_tool.proofs.Common.{arith, ◌≡◌, ℕ, suc, zero, ◌+◌, ◌<◌, ◌∙◌, List, [], ◌∷◌, drop, take, length, get_or, sym, ap, Result, OnErr, Rows, Command}
 use Rattle.zv_tool.proofs.Common.{next, last, drop_more}
 
 -- the commands from a place on
@@ -16,5 +16,4 @@ last_more m (d ∷ cs) (suc i) c rest is = last_more (next m d) cs i c rest is
 
 -- what holds anyhow
 pub at_err : {T E P : Type 0} (r : Result T E) → P → OnErr r P
-at_err (Ok x) p = tt
-at_err (Err e) p = p
+at_err r p = grind arith

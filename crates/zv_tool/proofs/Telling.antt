@@ -74,11 +74,7 @@ module _ (input : List ℕ) where
 -- the form of words that are a look-up
 pub look_status : (ws : List (List ℕ)) (form : Form) (input : List ℕ) → form_of ws ≡ Some form → is_look ws ≡ true
     → status_of_form form input ≡ status_of_look (look_input input)
-look_status [] form input is look = cc
-look_status (a ∷ []) form input is look = cc
-look_status (a ∷ b ∷ []) form input is look = cc
-look_status (a ∷ b ∷ c ∷ []) form input is look = grind arith
-look_status (a ∷ b ∷ c ∷ d ∷ rest) form input is look = cc
+look_status ws form input is look = grind arith
 
 -- ---- inputs that are read to their end
 
@@ -131,8 +127,4 @@ due_told form (Some input) R t d = record {
 pub look_complete : (ws : List (List ℕ)) (form : Form) (left : Option (List ℕ)) (result : Status) (R : Type 0) → form_of ws ≡ Some form
     → IfSome left (λ input. length input ≤ MAX_INPUT → (result ≡ status_of_form form input) ⊎ R) → is_look ws ≡ true
     → IfSome left (λ input. length input ≤ MAX_INPUT → (result ≡ status_of_look (look_input input)) ⊎ R)
-look_complete ws form None result R is complete look = tt
-look_complete ws form (Some input) result R is complete look = λ within. elim (complete within) [
-  | inl due ↦ inl (due ∙ look_status ws form input is look)
-  | inr other ↦ inr other
-]
+look_complete ws form left result R is complete look = let due = look_status ws form in grind arith
