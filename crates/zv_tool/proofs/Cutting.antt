@@ -1,31 +1,16 @@
 -- The pieces of a text: its first piece, its lines and its words.
-use Rattle.std.proofs.Common.{◌≡◌, ℕ, ◌+◌, ◌-◌, ◌<◌, ◌≤◌, ◌==◌, List, [], ◌∷◌, ◌++◌, length, get_or, take, drop, Bool, true, false, refl, sym, ap, ◌∙◌, subst}
-use Rattle.std.proofs.Common.{arith, Some, None, append_assoc, add-one}
-use Rattle.std.specs.Prelude.{Option, if◌then◌else◌}
-use Rattle.std.specs.List.{onto_first, slice_split}
-use Rattle.std.specs.Option.{option_and_then}
-use Rattle.std.specs.Str.{is_utf8}
-use Rattle.std.proofs.Math.Seq.{split_at}
-use Rattle.std.proofs.lemmas.Bool.{eqb-true}
-use Rattle.std.proofs.lemmas.List.{take_all, take_rest, get_or-take, length-take}
-use Rattle.std.proofs.lemmas.List.Elements.{All-append, All-from_get_or}
-use Rattle.std.proofs.lemmas.List.Splits.{slice_split_at, slice_split_none, length-slice_split}
-use Rattle.memchr.specs.Find.{is_byte}
-use Rattle.zv_tool.specs.Digits.{◌>>=◌, bytes_of_digits, content_of}
-use Rattle.zv_tool.specs.Input.{unless_empty, without_empty_last, field, key, lines, words}
-use Rattle.zv_tool.specs.Parser.{Lacks, after_mark, first_of, words_after}
-
--- a test that is not true is false
-is_false : (t : Bool) → (t ≡ true → ⊥) → t ≡ false
-is_false true other = absurd (other refl)
-is_false false other = refl
+use Rattle.zv_tool.proofs.Common.{◌≡◌, ℕ, ◌+◌, ◌-◌, ◌<◌, ◌≤◌, List, [], ◌∷◌, ◌++◌, length, get_or, take, drop, true, false, refl, sym, ap, ◌∙◌, subst, arith}
+use Rattle.zv_tool.proofs.Common.{Some, None, append_assoc, add-one, Option, slice_split, eqb-true, take_all, take_rest, length-take, slice_split_at}
+use Rattle.zv_tool.proofs.Common.{slice_split_none, length-slice_split, is_byte, ◌>>=◌, field, key, lines, words, Lacks, first_of, eq-eqb, option_and_then}
+use Rattle.zv_tool.proofs.Common.{split_at, get_or-take, false_from_ne_true, All-append, All-from_get_or, content_of, without_empty_last, after_mark}
+use Rattle.zv_tool.proofs.Common.{words_after}
 
 module _ (byte : ℕ) (text : List ℕ) where
   -- no byte is this one before the first
   pub lacks_before : (end : ℕ) → ((k : ℕ) → 0 ≤ k → k < end → is_byte byte (get_or text k 0) ≡ true → ⊥) → Lacks byte (take end text)
   lacks_before end none =
       All-from_get_or (λ b. is_byte byte b ≡ false) (take end text) 0
-      (λ i lt. let low : i < end = omega (arith, length-take end text) in rw (get_or-take end text i 0 low) (is_false _ (none i (omega arith) low)))
+      (λ i lt. let low : i < end = omega (arith, length-take end text) in rw (get_or-take end text i 0 low) (false_from_ne_true _ (none i (omega arith) low)))
 
   -- the text is what stands before a byte, the byte and what follows it
   pub cut_around : (end : ℕ) → end < length text → is_byte byte (get_or text end 0) ≡ true
@@ -35,19 +20,19 @@ module _ (byte : ℕ) (text : List ℕ) where
       let at : text ≡ take end text ++ get_or text end 0 ∷ drop (end + 1) text = rw (add-one end) (split_at text end 0 within) in
       rw (take_rest text (end + 1)) (subst (λ b. text ≡ take end text ++ b ∷ drop (end + 1) text) same at)
 
+  pub split_around : (end : ℕ) → Lacks byte (take end text) → text ≡ take end text ++ byte ∷ take (length text - (end + 1)) (drop (end + 1) text)
+      → slice_split (is_byte byte) text ≡ take end text ∷ slice_split (is_byte byte) (take (length text - (end + 1)) (drop (end + 1) text))
+  split_around end before cut = ap (slice_split (is_byte byte)) cut ∙ slice_split_at (is_byte byte) (take end text) byte _ before (eq-eqb byte byte refl)
+
 -- a piece before others is kept
 kept : (piece : List ℕ) (rest : List (List ℕ)) → 0 < length rest → without_empty_last (piece ∷ rest) ≡ piece ∷ without_empty_last rest
-kept piece [] some = absurd (omega arith)
-kept piece (next ∷ rest) some = refl
-
--- the first piece of a text with an LF is its first line
-pub first_line : (text line rest : List ℕ) → slice_split (is_byte 10) text ≡ line ∷ slice_split (is_byte 10) rest → lines text ≡ line ∷ lines rest
-first_line text line rest split =
-    ap without_empty_last split ∙ kept line (slice_split (is_byte 10) rest) (omega (arith, length-slice_split (is_byte 10) rest))
+kept piece rest some = grind arith
 
 -- a line and its LF
 pub line_and : (line rest : List ℕ) → Lacks 10 line → lines (line ++ 10 ∷ rest) ≡ line ∷ lines rest
-line_and line rest lacks = first_line (line ++ 10 ∷ rest) line rest (slice_split_at (is_byte 10) line 10 rest lacks refl)
+line_and line rest lacks =
+    ap without_empty_last (slice_split_at (is_byte 10) line 10 rest lacks refl)
+    ∙ kept line (slice_split (is_byte 10) rest) (omega (arith, length-slice_split (is_byte 10) rest))
 
 -- a line that came in two parts
 pub line_of_parts : (tail piece more rest after : List ℕ) → Lacks 10 tail → Lacks 10 more → piece ≡ more ++ 10 ∷ rest
@@ -59,42 +44,24 @@ line_of_parts tail piece more rest after lacks_tail lacks_more is =
 
 -- a line with no LF
 pub last_line : (line : List ℕ) → Lacks 10 line → 0 < length line → lines line ≡ line ∷ []
-last_line line lacks some = ap without_empty_last (slice_split_none (is_byte 10) line lacks) ∙ by line some
-  where
-    by : (text : List ℕ) → 0 < length text → unless_empty text ≡ text ∷ []
-    by [] some = absurd (omega arith)
-    by (b ∷ rest) some = refl
+last_line line lacks some = let whole = slice_split_none (is_byte 10) line lacks in grind arith
 
 -- ---- words
 
 -- a text whose first word ends where it does
 pub last_word : (text : List ℕ) (len : ℕ) → length text ≤ len → Lacks 32 (take len text) → words text ≡ take len text ∷ []
-last_word text len all lacks =
-    rw (take_all len text all) (slice_split_none (is_byte 32) text (subst (Lacks 32) (take_all len text all) lacks))
+last_word text len all lacks = rw (take_all len text all) (slice_split_none (is_byte 32) text (subst (Lacks 32) (take_all len text all) lacks))
 
 -- or at a space
 pub word_and : (text : List ℕ) (len : ℕ) → len < length text → get_or text len 0 ≡ 32 → Lacks 32 (take len text)
     → words text ≡ take len text ∷ words (take (length text - (len + 1)) (drop (len + 1) text))
-word_and text len within space lacks =
-    ap words (cut_around 32 text len within (ap (is_byte 32) space)) ∙ slice_split_at (is_byte 32) (take len text) 32 _ lacks refl
+word_and text len within space lacks = split_around 32 text len lacks (cut_around 32 text len within (ap (is_byte 32) space))
 
 -- what a reading of fields by their digits gives at the first word of a text
 module _ {A : Type 0} (read inner : List ℕ → Option A) (is : (word : List ℕ) → read word ≡ (after_mark word >>= inner)) where
-  choose : (b : ℕ) (rest w : List ℕ) (ws : List (List ℕ)) (space mark : Bool) → (b == 32) ≡ space → (b == 120) ≡ mark → words rest ≡ w ∷ ws
-      → first_of read (if space then [] ∷ w ∷ ws else (b ∷ w) ∷ ws) ≡ ((if mark then Some rest else None) >>= (λ d. first_of inner (words d)))
-  choose b rest w ws true true s m whole = absurd (omega (arith, eqb-true b 32 s, eqb-true b 120 m))
-  choose b rest w ws true false s m whole = rw (is []) refl
-  choose b rest w ws false true s m whole = rw (is (b ∷ w), m, whole) refl
-  choose b rest w ws false false s m whole = rw (is (b ∷ w), m) refl
-
   first_marked : (text : List ℕ) → first_of read (words text) ≡ (after_mark text >>= (λ d. first_of inner (words d)))
   first_marked [] = rw (is []) refl
-  first_marked (b ∷ rest) = by (words rest) refl (omega (arith, length-slice_split (is_byte 32) rest))
-    where
-      by : (ws : List (List ℕ)) → words rest ≡ ws → 0 < length ws
-          → first_of read (if b == 32 then [] ∷ ws else onto_first b ws) ≡ (after_mark (b ∷ rest) >>= (λ d. first_of inner (words d)))
-      by [] whole some = absurd (omega arith)
-      by (w ∷ ws) whole some = choose b rest w ws (b == 32) (b == 120) refl refl whole
+  first_marked (b ∷ rest) = let some = length-slice_split (is_byte 32) rest in grind (arith, is)
 
   first_field : (text : Option (List ℕ)) (digits : List ℕ) → Some digits ≡ option_and_then after_mark text
       → first_of read (words_after text) ≡ first_of inner (words digits)
@@ -102,25 +69,10 @@ module _ {A : Type 0} (read inner : List ℕ → Option A) (is : (word : List �
   first_field (Some text) digits marked = first_marked text ∙ ap (λ o. o >>= (λ d. first_of inner (words d))) (sym marked)
 
 key_digits : (word : List ℕ) → key word ≡ (after_mark word >>= content_of 1)
-key_digits [] = refl
-key_digits (b ∷ digits) = by (b == 120)
-  where
-    by : (t : Bool) → ((if t then bytes_of_digits digits else None) >>= (λ bytes. if is_utf8 bytes then Some bytes else None))
-        ≡ ((if t then Some digits else None) >>= content_of 1)
-    by true = refl
-    by false = refl
+key_digits word = grind arith
 
 field_digits : (word : List ℕ) → field word ≡ (after_mark word >>= content_of 0)
-field_digits [] = refl
-field_digits (b ∷ digits) = by (b == 120)
-  where
-    kept_as_it_is : (o : Option (List ℕ)) → o ≡ (o >>= (λ bytes. Some bytes))
-    kept_as_it_is None = refl
-    kept_as_it_is (Some bytes) = refl
-
-    by : (t : Bool) → (if t then bytes_of_digits digits else None) ≡ ((if t then Some digits else None) >>= content_of 0)
-    by true = kept_as_it_is (bytes_of_digits digits)
-    by false = refl
+field_digits word = grind arith
 
 pub first_key : (text : Option (List ℕ)) (digits : List ℕ) → Some digits ≡ option_and_then after_mark text
     → first_of key (words_after text) ≡ first_of (content_of 1) (words digits)

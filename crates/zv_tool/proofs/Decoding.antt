@@ -1,19 +1,14 @@
 -- Hex digits that are read by a table, pair after pair.
-use Rattle.std.proofs.Common.{◌≡◌, ◌⊎◌, ℕ, zero, suc, ◌+◌, ◌*◌, ◌%◌, ◌<◌, ◌≤◌, ◌==◌, Bool, true, false, ◌&&◌, List, [], ◌∷◌, ◌++◌, replicate}
-use Rattle.std.proofs.Common.{take, drop, slice_index, slice_set, length, inl, inr, Option, Some, None, Ok, Err, refl, sym, ap, ◌∙◌, arith, append_assoc}
-use Rattle.std.specs.Prelude.{Result, if◌then◌else◌, unwrap_or}
-use Rattle.std.specs.Result.{result_ok}
-use Rattle.std.proofs.lemmas.Bool.{and_parts, cases_lt, eqb-true}
+use Rattle.zv_tool.proofs.Common.{◌≡◌, ◌⊎◌, ℕ, ◌+◌, ◌*◌, ◌%◌, ◌<◌, ◌≤◌, ◌==◌, true, false, List, [], ◌∷◌, ◌++◌, replicate, take, drop, slice_index, slice_set}
+use Rattle.zv_tool.proofs.Common.{length, inl, inr, Option, Some, None, Ok, Err, refl, sym, ap, ◌∙◌, arith, append_assoc, Result, if◌then◌else◌, result_ok}
+use Rattle.zv_tool.proofs.Common.{eqb-true, append-nil, length-take, take-append-drop, decode_of, decode_of-ok, bytes_of_digits, Lacks, unwrap_or, take_more}
+use Rattle.zv_tool.proofs.Common.{take_more_set, hex_digit_value, pair_value, decode_of-even, cons_byte, decode_pairs-err_pair, decode_pairs-ok_pair, prepend}
+use Rattle.zv_tool.proofs.Common.{prepend-cons_byte}
+use Rattle.hex.specs.Hex.{decode_pairs}
 use Rattle.std.proofs.lemmas.Bool.Decides.{nat_tests}
-use Rattle.std.proofs.lemmas.List.{append-nil, length-take, take-append-drop, take_more, take_more_set}
-use Rattle.memchr.specs.Find.{is_byte}
-use Rattle.hex.specs.Hex.{decode_of, decode_pairs, hex_digit_value, is_hex_digit, pair_value}
 use Rattle.hex.specs.declared.error.FromHexError.{FromHexError}
 use Rattle.hex.specs.declared.error.FromHexError.TheVariants.{InvalidHexCharacter, OddLength}
-use Rattle.hex.proofs.HexLemmas.{decode_of-even, decode_of-ok}
-use Rattle.hex.proofs.Pairs.{cons_byte, decode_pairs-err_pair, decode_pairs-ok_pair, prepend, prepend-cons_byte}
-use Rattle.zv_tool.specs.Digits.{bytes_of_digits}
-use Rattle.zv_tool.specs.Parser.{Lacks}
+use Rattle.zv_tool.proofs.HexText.{all_below, passes_below}
 
 -- ---- the table
 
@@ -21,21 +16,9 @@ use Rattle.zv_tool.specs.Parser.{Lacks}
 abbrev pub digit_or_16 : ℕ → ℕ
 digit_or_16 c = unwrap_or (hex_digit_value c) 16
 
--- the first n places of a table have the values of the digits
-abbrev pub are_values : List ℕ → ℕ → Bool
-are_values t zero = true
-are_values t (suc n) = (slice_index t n == digit_or_16 n) && are_values t n
-
-pub value_in : (t : List ℕ) (n c : ℕ) → are_values t n ≡ true → c < n → slice_index t c ≡ digit_or_16 c
-value_in t zero c all lt = absurd (omega arith)
-value_in t (suc n) c all lt =
-    let parts = and_parts (slice_index t n == digit_or_16 n) (are_values t n) all in
-    elim (cases_lt c n) [
-      | inl below ↦ value_in t n c parts.1 below
-      | inr top ↦
-          let is : c ≡ n = omega arith in
-          rw is (eqb-true _ _ parts.0)
-    ]
+-- a table has the values of the first n digits
+pub value_in : (t : List ℕ) (n c : ℕ) → all_below (λ k. slice_index t k == digit_or_16 k) n ≡ true → c < n → slice_index t c ≡ digit_or_16 c
+value_in t n c all lt = eqb-true _ _ (passes_below (λ k. slice_index t k == digit_or_16 k) n c all lt)
 
 -- the table of `digits`
 abbrev pub values : List ℕ
@@ -51,18 +34,10 @@ IsRead i text place = (rest : List ℕ) → decode_pairs 0 (take (2 * i) text ++
 
 -- what its value in the table says of a digit
 digit_is : (c : ℕ) → digit_or_16 c ≤ 15 → hex_digit_value c ≡ Some (digit_or_16 c)
-digit_is c small = by (hex_digit_value c) small
-  where
-    by : (o : Option ℕ) → unwrap_or o 16 ≤ 15 → o ≡ Some (unwrap_or o 16)
-    by (Some v) small = refl
-    by None small = absurd (omega (arith, small))
+digit_is c small = grind arith
 
 no_digit : (c : ℕ) → 15 < digit_or_16 c → hex_digit_value c ≡ None
-no_digit c large = by (hex_digit_value c) refl large
-  where
-    by : (o : Option ℕ) → hex_digit_value c ≡ o → 15 < unwrap_or o 16 → o ≡ None
-    by None is large = refl
-    by (Some v) is large = let small : v < 16 = grind arith in absurd (omega (arith, small, large))
+no_digit c large = grind arith
 
 module _ (text place : List ℕ) (i : ℕ) (fits : 2 * i + 1 < length text) (was : IsRead i text place) where
   abbrev high : ℕ
@@ -118,9 +93,6 @@ read_so_far text place n within was =
 pub lacks_space : (digits bytes : List ℕ) → bytes_of_digits digits ≡ Some bytes → Lacks 32 digits
 lacks_space digits bytes is = by (decode_of digits) refl is
   where
-    no_space : (c : ℕ) → is_hex_digit c ≡ true → is_byte 32 c ≡ false
-    no_space c digit = grind (arith, nat_tests)
-
     by : (r : Result (List ℕ) FromHexError) → decode_of digits ≡ r → result_ok r ≡ Some bytes → Lacks 32 digits
-    by (Ok found) ok same = λ k d lt. no_space _ ((decode_of-ok digits found ok).1 k d lt)
+    by (Ok found) ok same = λ k d lt. let digit = (decode_of-ok digits found ok).1 k d lt in grind (arith, nat_tests)
     by (Err e) err same = cc

@@ -1,17 +1,10 @@
 -- Edits with no commands.
-use Rattle.std.proofs.Common.{◌≡◌, ℕ, List, [], ◌∷◌, ◌++◌, Ok, sym, ◌∙◌, ap, subst, codes}
-use Rattle.std.proofs.lemmas.List.{append_cancel_left, append_cancel_right}
-use Rattle.hex.specs.Hex.{decode_of, encode_lower}
-use Rattle.hex.proofs.HexLemmas.{decode_of-encode_lower, decode_of-same}
+use Rattle.zv_tool.proofs.Common.{◌≡◌, ℕ, List, [], ◌∷◌, ◌++◌, Ok, sym, ◌∙◌, ap, subst, codes, decode_of, encode_lower, Stands, canon, Rows, answers}
+use Rattle.zv_tool.proofs.Common.{image_line, append_cancel_left, append_cancel_right, decode_of-encode_lower, decode_of-same, canon_again, same_canon}
+use Rattle.zv_tool.proofs.Common.{SameEdits, WrittenBack}
 use Rattle.zv_ule.specs.Bytes.{IsBytes}
 use Rattle.zv_ule.specs.laws.OptionSpellings.{zero_bytes}
-use Rattle.zv_map2d.specs.Image.{Stands, canon}
-use Rattle.zv_map2d.specs.Rows.{Rows}
-use Rattle.zv_map2d_laws.proofs.Kept.{canon_again, same_canon}
 use Rattle.zv_map2d_laws.proofs.OnlyImage.{one_image}
-use Rattle.zv_tool.specs.Answers.{answers}
-use Rattle.zv_tool.specs.Laws.{SameEdits, WrittenBack}
-use Rattle.zv_tool.specs.Output.{image_line}
 
 -- the canonical image of a map that bytes stand for is bytes
 canon_bytes : (image : List ℕ) (m : Rows) → IsBytes image → Stands image m → IsBytes (canon m)

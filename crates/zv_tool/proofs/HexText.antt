@@ -1,8 +1,7 @@
 -- Hex digits of bytes after bytes.
-use Rattle.std.proofs.Common.{codes, ◌≡◌, ℕ, zero, suc, ◌+◌, ◌*◌, ◌/◌, ◌%◌, ◌<◌, ◌==◌, ◌&&◌, Bool}
-use Rattle.std.proofs.Common.{true, inl, inr, slice_index, List, [], ◌∷◌, ◌++◌, length, refl, ap, ◌∙◌, arith}
-use Rattle.std.proofs.lemmas.Bool.{and_parts, cases_lt, eqb-true}
-use Rattle.hex.specs.Hex.{encode_with, encode_lower, lower_digits}
+use Rattle.zv_tool.proofs.Common.{codes, ◌≡◌, ℕ, zero, suc, ◌+◌, ◌*◌, ◌/◌, ◌%◌, ◌<◌, ◌==◌, ◌&&◌, Bool, true, slice_index, List, [], ◌∷◌, ◌++◌, length, refl, ap}
+use Rattle.zv_tool.proofs.Common.{◌∙◌, arith, and_parts, eqb-true, encode_lower, lower_digits}
+use Rattle.hex.specs.Hex.{encode_with}
 
 encode_append : (t xs ys : List ℕ) → encode_with t (xs ++ ys) ≡ encode_with t xs ++ encode_with t ys
 unfolding encode_with
@@ -20,33 +19,24 @@ unfolding encode_with
 encode_none [] none = refl
 encode_none (b ∷ rest) none = absurd (omega arith)
 
-pub encode_four : (a b c d : List ℕ) → encode_lower (a ++ (b ++ (c ++ d))) ≡ encode_lower a ++ (encode_lower b ++ (encode_lower c ++ encode_lower d))
-encode_four a b c d =
-    encode_lower_append a (b ++ (c ++ d)) ∙ ap (λ (l : List ℕ). encode_lower a ++ l)
-    (encode_lower_append b (c ++ d) ∙ ap (λ (l : List ℕ). encode_lower b ++ l) (encode_lower_append c d))
+-- ---- tables
 
--- ---- the table of pairs
+-- a test that every number below n passes
+abbrev pub all_below : (ℕ → Bool) → ℕ → Bool
+all_below test zero = true
+all_below test (suc n) = test n && all_below test n
 
--- the first n bytes have their two digits in a table, one byte after another
-abbrev pub are_pairs : List ℕ → ℕ → Bool
-are_pairs t zero = true
-are_pairs t (suc n) =
-    (slice_index t (2 * n) == slice_index lower_digits (n / 16)) && (slice_index t (2 * n + 1) == slice_index lower_digits (n % 16)) && are_pairs t n
+pub passes_below : (test : ℕ → Bool) (n k : ℕ) → all_below test n ≡ true → k < n → test k ≡ true
+passes_below test zero k all lt = absurd (omega arith)
+passes_below test (suc n) k all lt = let ih = passes_below test n k in grind arith
 
-pub pair_in : (t : List ℕ) (n c : ℕ) → are_pairs t n ≡ true → c < n
-    → (slice_index t (2 * c) ≡ slice_index lower_digits (c / 16)) × (slice_index t (2 * c + 1) ≡ slice_index lower_digits (c % 16))
-pair_in t zero c all lt = absurd (omega arith)
-pair_in t (suc n) c all lt =
-    let high = slice_index t (2 * n) == slice_index lower_digits (n / 16) in
-    let low = slice_index t (2 * n + 1) == slice_index lower_digits (n % 16) in
-    let parts = and_parts (high && low) (are_pairs t n) all in
-    let both = and_parts high low parts.0 in
-    elim (cases_lt c n) [
-      | inl below ↦ pair_in t n c parts.1 below
-      | inr top ↦
-          let is : c ≡ n = omega arith in
-          rw is (eqb-true _ _ both.0, eqb-true _ _ both.1)
-    ]
+-- whether a byte has its two digits in a table, one byte after another
+abbrev pub is_pair : List ℕ → ℕ → Bool
+is_pair t k = (slice_index t (2 * k) == slice_index lower_digits (k / 16)) && (slice_index t (2 * k + 1) == slice_index lower_digits (k % 16))
+
+pub pair_in : (t : List ℕ) (n k : ℕ) → all_below (is_pair t) n ≡ true → k < n
+    → (slice_index t (2 * k) ≡ slice_index lower_digits (k / 16)) × (slice_index t (2 * k + 1) ≡ slice_index lower_digits (k % 16))
+pair_in t n k all lt = let both = and_parts _ _ (passes_below (is_pair t) n k all lt) in (eqb-true _ _ both.0, eqb-true _ _ both.1)
 
 -- the table of `digits`
 abbrev pub pairs : List ℕ

@@ -1,4 +1,5 @@
 mod Worked
+pub mod Common
 pub mod Cutting
 pub mod Decoding
 pub mod Edits

@@ -1,16 +1,11 @@
 -- Commands one after another.
-use Rattle.std.proofs.Common.{◌≡◌, ℕ, ◌+◌, List, [], ◌∷◌, ◌++◌, length, refl, sym, ap, subst, Some, None, Ok, Err, append_assoc, arith, length-append}
-use Rattle.std.specs.Prelude.{Option, Result}
-use Rattle.zv_tool.specs.Input.{words, commands, command_of_words, command_and, parse_input}
-use Rattle.zv_tool.specs.Parser.{after_all, outcome_with}
-use Rattle.zv_tool.specs.declared.command.Command.{Command}
+use Rattle.zv_tool.proofs.Common.{◌≡◌, ℕ, ◌+◌, List, [], ◌∷◌, ◌++◌, length, subst, Some, None, append_assoc, arith, length-append, Option, Result, words}
+use Rattle.zv_tool.proofs.Common.{commands, command_of_words, command_and, parse_input, Command, after_all, outcome_with}
 use Rattle.zv_tool.specs.declared.parser.Parser.{Parser}
 
 -- one more command
-after_push : (cs : List Command) (c : Command) (n : ℕ) (r : Result (List Command) ℕ)
-    → after_all cs (command_and n (Some c) r) ≡ after_all (cs ++ c ∷ []) r
-after_push cs c n (Ok ds) = ap Ok (sym (append_assoc cs (c ∷ []) ds))
-after_push cs c n (Err m) = refl
+after_push : (cs : List Command) (c : Command) (n : ℕ) (r : Result (List Command) ℕ) → after_all cs (command_and n (Some c) r) ≡ after_all (cs ++ c ∷ []) r
+after_push cs c n r = grind (arith, append_assoc)
 
 -- a line that is a command goes to the commands so far
 pub one_more_command : (cs : List Command) (c : Command) (line : List ℕ) (rest : List (List ℕ)) → command_of_words (words line) ≡ Some c
@@ -25,5 +20,4 @@ one_more_command cs c line rest said =
 abbrev pub Parses : Option (List ℕ) → Option (List ℕ) → Parser → ℕ → Type 0
 Parses None now parser room = Unit
 Parses (Some input) None parser room = ⊥
-Parses (Some input) (Some left) parser room =
-    (parse_input input ≡ outcome_with parser left) × (length input + room ≡ 16777216 + length left)
+Parses (Some input) (Some left) parser room = (parse_input input ≡ outcome_with parser left) × (length input + room ≡ 16777216 + length left)

@@ -1,31 +1,19 @@
 -- What the program owes for an image, by its fault.
-use Rattle.std.proofs.Common.{◌≡◌, ◌∙◌, List, ℕ, Some, None, ap, sym, subst}
-use Rattle.std.specs.Prelude.{MatchOption}
-use Rattle.std.specs.declared.option.Option.{Option}
-use Rattle.zv_map2d.specs.Image.{Stands, by_bytes, fault}
-use Rattle.zv_map2d.specs.Rows.{Rows, find}
+use Rattle.zv_tool.proofs.Common.{◌≡◌, ◌∙◌, List, ℕ, Some, None, ap, Option, Stands, by_bytes, fault, Rows, find, Command, Done, BadImage, IsAnswer, cause_line}
+use Rattle.zv_tool.proofs.Common.{found_line, status_of_fault}
+use Rattle.zv_tool.specs.Program.{LookedText, ImageText, status_of_image}
 use Rattle.zv_map2d.specs.declared.error.EditError.{EditError}
-use Rattle.zv_tool.specs.declared.command.Command.{Command}
-use Rattle.zv_tool.specs.declared.status.Status.TheVariants.{Done, BadImage}
-use Rattle.zv_tool.specs.Answers.{IsAnswer}
-use Rattle.zv_tool.specs.Output.{cause_line, found_line}
-use Rattle.zv_tool.specs.Program.{ImageText, IsLooked, LookedText, status_of_fault, status_of_image}
-
--- a text by the fault that is found, whatever the fault's definition
-text_by : (f g : Option EditError) (P : Type 0) (text : List ℕ) → f ≡ g → MatchOption g P (λ cause. text ≡ cause_line cause)
-    → MatchOption f P (λ cause. text ≡ cause_line cause)
-text_by f g P text is wanted = subst (λ (o : Option EditError). MatchOption o P (λ cause. text ≡ cause_line cause)) (sym is) wanted
 
 -- a refused image: the line of its fault
 pub refused_text : (image : List ℕ) (cs : List Command) (cause : EditError) (text : List ℕ) → fault image ≡ Some cause
     → text ≡ cause_line cause → ImageText image cs text
 unfolding ImageText
-refused_text image cs cause text is same = text_by (fault image) (Some cause) (IsAnswer image cs text) text is same
+refused_text image cs cause text is same = rw is same
 
 -- another: an answer
 pub sound_text : (image : List ℕ) (cs : List Command) (text : List ℕ) → fault image ≡ None → IsAnswer image cs text → ImageText image cs text
 unfolding ImageText
-sound_text image cs text is answer = text_by (fault image) None (IsAnswer image cs text) text is answer
+sound_text image cs text is answer = rw is answer
 
 pub refused_status : (image : List ℕ) (cause : EditError) → fault image ≡ Some cause → status_of_image image ≡ BadImage
 unfolding status_of_image
@@ -40,7 +28,7 @@ sound_status image is = ap status_of_fault is
 pub refused_look : (image key0 key1 : List ℕ) (cause : EditError) (text : List ℕ) → fault image ≡ Some cause → text ≡ cause_line cause →
     LookedText image key0 key1 text
 unfolding LookedText
-refused_look image key0 key1 cause text is same = text_by (fault image) (Some cause) (IsLooked image key0 key1 text) text is same
+refused_look image key0 key1 cause text is same = rw is same
 
 -- the line of what was found
 pub found_look : (image key0 key1 a b : List ℕ) (value : Option (List ℕ)) → fault image ≡ None → a ≡ key0 → b ≡ key1 →
@@ -49,4 +37,4 @@ unfolding LookedText
 found_look image key0 key1 a b value none p q found =
     let is : value ≡ find by_bytes by_bytes found.0 key0 key1 =
     found.2 ∙ ap (λ (k : List ℕ × List ℕ). find by_bytes by_bytes found.0 k.0 k.1) (λ i. (p i, q i)) in
-    text_by (fault image) None (IsLooked image key0 key1 (found_line value)) (found_line value) none (found.0, found.1, ap found_line is)
+    rw none (found.0, found.1, ap found_line is)

@@ -1,12 +1,7 @@
 -- Texts that an output takes one after another.
-use Rattle.std.proofs.Common.{◌≡◌, ℕ, ◌+◌, min, List, [], ◌++◌, length, take, sym, ◌∙◌, ap, subst, arith, append_assoc, append-nil, refl, Result, Ok, Err, IsOk}
-use Rattle.std.proofs.Common.{IsErr, OnOk}
-use Rattle.std.specs.declared.option.Option.{Option}
-use Rattle.std.proofs.KnownBytes.{Appends-nil, Appends-trans}
-use Rattle.std.proofs.Math.Seq.{take-append-add}
-use Rattle.std.proofs.lemmas.List.{take-append-le, take_min}
-use Rattle.std.specs.Io.KnownBytes.{Appends}
-use Rattle.zv_tool.specs.Devices.{AppendsPrefix, Takes}
+use Rattle.zv_tool.proofs.Common.{◌≡◌, ℕ, ◌+◌, min, List, [], ◌++◌, length, take, sym, ◌∙◌, ap, subst, arith, append_assoc, append-nil, refl, Result, Ok, Err}
+use Rattle.zv_tool.proofs.Common.{IsOk, IsErr, OnOk, Option, Appends-trans, Appends, Takes, Appends-nil, take-append-add, take-append-le, take_min}
+use Rattle.zv_tool.proofs.Common.{AppendsPrefix}
 use Rattle.zv_tool.specs.Sending.{Sends}
 use Rattle.zv_tool.specs.declared.device.Failed.{Failed}
 use Rattle.zv_tool.specs.declared.output.Output.{Output}
@@ -89,9 +84,6 @@ module _ {K : Type 0} {taken : K → Option (List ℕ)} {faults : K → ℕ} whe
 
   -- ---- loops
 
-  pub completes_all : (a : Output K) (xs : List ℕ) → Completes taken faults a a xs xs
-  completes_all a xs = record { step = λ after r sent. sent }
-
   pub completes_more : {a b c : Output K} {s : Result Unit Failed} {whole rest xs ys : List ℕ} → Completes taken faults a b whole rest → rest ≡ xs ++ ys
       → Sends taken faults b c s xs → IsOk s → Completes taken faults a c whole ys
   completes_more left is sent ok = record { step = λ after r more. left.step after r (rw is (sends_then sent ok more)) }
@@ -104,6 +96,5 @@ module _ {K : Type 0} {taken : K → Option (List ℕ)} {faults : K → ℕ} whe
       → Sends taken faults b c r [] → Sends taken faults a c r whole
   completes_last {c = c} {r = r} left none sent = left.step c r (rw none sent)
 
-  pub completes_none : {a b : Output K} {whole rest : List ℕ} → Completes taken faults a b whole rest → rest ≡ []
-      → Sends taken faults a b (Ok tt) whole
+  pub completes_none : {a b : Output K} {whole rest : List ℕ} → Completes taken faults a b whole rest → rest ≡ [] → Sends taken faults a b (Ok tt) whole
   completes_none {b = b} left none = completes_last left none (sends_later refl (sym (append-nil b.piece)))

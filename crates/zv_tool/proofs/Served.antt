@@ -1,9 +1,6 @@
 -- Commands, one after another.
-use Rattle.std.proofs.Common.{◌≡◌, ℕ, suc, zero, ◌+◌, ◌<◌, ◌∙◌, List, [], ◌∷◌, drop, take, length, get_or, sym, ap, Result, Ok, Err, OnErr}
-use Rattle.std.proofs.lemmas.List.{drop_more}
-use Rattle.zv_map2d.specs.Rows.{Rows}
-use Rattle.zv_tool.specs.declared.command.Command.{Command}
-use Rattle.zv_tool.specs.Answers.{next, last}
+use Rattle.zv_tool.proofs.Common.{arith, ◌≡◌, ℕ, suc, zero, ◌+◌, ◌<◌, ◌∙◌, List, [], ◌∷◌, drop, take, length, get_or, sym, ap, Result, OnErr, Rows, Command}
+use Rattle.zv_tool.proofs.Common.{next, last, drop_more}
 
 -- the commands from a place on
 pub ahead : (cs : List Command) (i : ℕ) (c : Command) → i < length cs → c ≡ get_or cs i c → drop i cs ≡ c ∷ drop (i + 1) cs
@@ -19,5 +16,4 @@ last_more m (d ∷ cs) (suc i) c rest is = last_more (next m d) cs i c rest is
 
 -- what holds anyhow
 pub at_err : {T E P : Type 0} (r : Result T E) → P → OnErr r P
-at_err (Ok x) p = tt
-at_err (Err e) p = p
+at_err r p = grind arith

@@ -1,26 +1,17 @@
 -- Worked rows of the definitions, computed.
-use Rattle.std.proofs.Common.{◌≡◌, ◌∷◌, [], ◌++◌, ℕ, List, length, refl, codes, Ok, Err, Some, None, true, false}
+use Rattle.zv_tool.proofs.Common.{◌≡◌, ◌∷◌, [], ◌++◌, ℕ, List, length, refl, codes, Ok, Err, Some, None, true, false, replicate, canon, Rows, Command, Get, Put}
+use Rattle.zv_tool.proofs.Common.{Del, Row, MAX_INPUT, Status, Done, BadLine, BadImage, Memory, WriteFault, answers, last, reply_lines, total_size, lines}
+use Rattle.zv_tool.proofs.Common.{words, field, key, missing, added, old, too_large, text, image_line, bad_line, cause_line, is_answer, filter, map, ends}
+use Rattle.zv_tool.proofs.Common.{Usage, ReadFault, TooLong, replies, some, pairs, usage_line, is_edit, is_written, is_silent, code_of}
 use Rattle.std.specs.Str.{is_utf8, chars}
-use Rattle.std.specs.Fmt.{digits}
-use Rattle.std.specs.Prelude.{filter, map, replicate}
 use Rattle.hex.specs.Hex.{decode_pairs, encode_with}
+use Rattle.zv_tool.specs.Input.{parse_input}
+use Rattle.std.specs.Fmt.{digits}
 use Rattle.zv_ule.specs.declared.error.TyName.TheVariants.{RawBytes4, VarZeroSlice}
 use Rattle.zv_ule.specs.declared.error.UleError.TheVariants.{InvalidLength, ParseError}
 use Rattle.zv_map2d.specs.declared.error.EditError.TheVariants.{Frame, Ule, Keys0Joiner, Keys1Values, JoinerOrder, JoinerEnd, KeyOrder}
-use Rattle.zv_map2d.specs.Image.{canon}
 use Rattle.zv_map2d_laws.specs.Locales.{locales}
-use Rattle.zv_map2d.specs.Rows.{Rows, ends}
-use Rattle.zv_tool.specs.declared.command.Command.{Command}
-use Rattle.zv_tool.specs.declared.command.Command.TheVariants.{Get, Put, Del, Row}
 use Rattle.zv_tool.specs.declared.commands.TheConstants.{MAX_COMMANDS}
-use Rattle.zv_tool.specs.declared.input.TheConstants.{MAX_INPUT}
-use Rattle.zv_tool.specs.declared.status.Status.{Status}
-use Rattle.zv_tool.specs.declared.status.Status.TheVariants.{Done, Usage, ReadFault, TooLong, BadLine, BadImage, Memory, WriteFault}
-use Rattle.zv_tool.specs.Answers.{answers, last, replies, reply_lines}
-use Rattle.zv_tool.specs.Commands.{total_size}
-use Rattle.zv_tool.specs.Input.{lines, words, field, key, parse_input}
-use Rattle.zv_tool.specs.Output.{some, missing, added, old, too_large, pairs, text, image_line, bad_line, cause_line, usage_line}
-use Rattle.zv_tool.specs.Program.{is_edit, is_answer, is_written, is_silent, code_of}
 
 -- LF
 abbrev lf : List ℕ

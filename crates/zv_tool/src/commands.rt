@@ -119,6 +119,7 @@ impl Commands {
     }
 
     // The sizes of the puts among them.
+    #[tactic(auto, using(crate::proofs::PutRoom::puts_within))]
     pub(crate) fn put_sizes(&self) -> PutSizes
         ensures sizes { result ≡ put_sizes self.now }
         ensures within { total_of result ≤ MAX_COMMANDS }

@@ -56,6 +56,7 @@ impl<'s, K: Sink> Output<'s, K> {
     }
 
     /// Adds a text: straight where there is room for it.
+    #[tactic(auto, using(crate::proofs::Sending::sends_later))]
     #[inline(always)]
     pub(crate) fn write(&mut self, text: &[u8]) -> Result<(), Failed>
         ensures { Sends K.taken K.faults self.old self.new result text.now }

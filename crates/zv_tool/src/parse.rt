@@ -41,6 +41,7 @@ pub(crate) struct Request {
 
 // A command, where no word follows its fields. (This and the next four are inlined, so that a
 // command is put together where it is kept.)
+#[tactic(auto, using(crate::proofs::Fields::not_last))]
 #[inline(always)]
 fn if_last(command: Command, rest: Option<&[u8]>) -> Option<Command>
     ensures { result ≡ if_last command (words_after (option_copied rest.entry)) }

@@ -1,7 +1,4 @@
-use Rattle.std.proofs.Common.{◌≡◌, ◌∙◌, List, ℕ, Ok, Err, refl, sym}
-use Rattle.std.specs.Prelude.{IsUtf8, MatchResult, Result, is_ok}
-use Rattle.std.specs.Str.{is_utf8}
-use Rattle.std.proofs.lemmas.Str.{IsUtf8-from_ascii, is_utf8-from_IsUtf8}
+use Rattle.zv_tool.proofs.Common.{◌≡◌, ◌∙◌, List, ℕ, Ok, Err, refl, sym, Result, is_utf8, is_utf8-from_IsUtf8, IsUtf8, MatchResult, is_ok, IsUtf8-from_ascii}
 use Rattle.zv_ule.proofs.Texts.{test_no}
 use Rattle.zv_tool.proofs.compact.is_text.Goals as goal
 

@@ -1,8 +1,6 @@
-use Rattle.std.proofs.Common.{◌≡◌, inl, inr, arith}
-use Rattle.hex.proofs.Pairs.{decode_start}
+use Rattle.zv_tool.proofs.Common.{◌≡◌, inl, inr, arith, decode_start}
 use Rattle.zv_tool.proofs.Decoding.{read_more, read_so_far, stopped}
 use Rattle.zv_tool.proofs.digits.decode_front.Goals as goal
-use Rattle.zv_tool.proofs.digits.decode_front.Goals.{then-high-gt15-via-then-high-gt15, then-high-gt15-via-else-high-gt15+then-low-gt15}
 
 pub pairs-init : goal.pairs-init
 pairs-init c = λ rest. decode_start rest c.args.place.now

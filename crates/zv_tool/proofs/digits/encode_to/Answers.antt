@@ -1,6 +1,4 @@
-use Rattle.std.proofs.Common.{slice_index, refl, arith}
-use Rattle.hex.proofs.Pairs.{encode_done, encode_step}
-use Rattle.hex.specs.Hex.{lower_digits}
+use Rattle.zv_tool.proofs.Common.{slice_index, refl, arith, lower_digits, encode_done, encode_step}
 use Rattle.zv_tool.proofs.HexText.{pair_in, pairs}
 use Rattle.zv_tool.proofs.digits.encode_to.Goals as goal
 

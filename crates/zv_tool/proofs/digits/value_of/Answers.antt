@@ -1,4 +1,4 @@
-use Rattle.std.proofs.Common.{refl, arith}
+use Rattle.zv_tool.proofs.Common.{refl, arith}
 use Rattle.zv_tool.proofs.Decoding.{value_in, values}
 use Rattle.zv_tool.proofs.digits.value_of.Goals as goal
 

@@ -3,9 +3,4 @@ use Rattle.zv_tool.proofs.Left.{keys_are_texts, left_stands}
 use Rattle.zv_tool.proofs.laws.laws.Goals as goal
 
 pub returns : goal.returns
-returns c = record {
-  texts = keys_are_texts;
-  left = left_stands;
-  same = same_edits;
-  again = written_back;
-}
+returns c = record { texts = keys_are_texts; left = left_stands; same = same_edits; again = written_back }

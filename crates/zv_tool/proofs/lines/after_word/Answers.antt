@@ -1,4 +1,4 @@
-use Rattle.std.proofs.Common.{arith}
+use Rattle.zv_tool.proofs.Common.{arith}
 use Rattle.zv_tool.proofs.Cutting.{last_word, word_and}
 use Rattle.zv_tool.proofs.lines.after_word.Goals as goal
 

@@ -1,4 +1,4 @@
-use Rattle.std.proofs.Common.{rules, append-nil, sym}
+use Rattle.zv_tool.proofs.Common.{rules, append-nil, sym}
 use Rattle.zv_tool.proofs.Sending.{sends_as, sends_then}
 use Rattle.zv_tool.proofs.look.send_found.Goals as goal
 

@@ -1,5 +1,5 @@
-use Rattle.std.proofs.Common.{◌≡◌, ℕ, List, ◌-◌, ◌+◌, ◌≤◌, ◌++◌, take, drop, length, length-take, length-drop, take-append-drop, ap, sym, ◌∙◌, arith}
-use Rattle.std.proofs.lemmas.List.{drop-drop, take_at}
+use Rattle.zv_tool.proofs.Common.{◌≡◌, ℕ, List, ◌-◌, ◌+◌, ◌≤◌, ◌++◌, take, drop, length, length-take, length-drop, take-append-drop, ap, sym, ◌∙◌, arith}
+use Rattle.zv_tool.proofs.Common.{drop-drop, take_at}
 use Rattle.zv_tool.proofs.memory.give.Goals as goal
 
 -- what is left from a place: the next n bytes, which were copied to the front of a buffer, and the rest
@@ -11,5 +11,4 @@ next_and_rest items copied others at n fits copy =
     rw (take_at copied others n long, same, ← drop-drop n at items) (sym (take-append-drop n (drop at items)))
 
 pub returns-clause-given : goal.returns-clause-given
-returns-clause-given c =
-    next_and_rest c.args.bytes.now c.copy_from_slice.new.self _ c.args.at c.min-count.result (omega arith) c.copy_from_slice.ensures.after
+returns-clause-given c = next_and_rest c.args.bytes.now c.copy_from_slice.new.self _ c.args.at c.min-count.result (omega arith) c.copy_from_slice.ensures.after

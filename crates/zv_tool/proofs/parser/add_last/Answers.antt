@@ -1,6 +1,5 @@
-use Rattle.std.proofs.Common.{rules, ◌∙◌, ap, []}
+use Rattle.zv_tool.proofs.Common.{rules, ◌∙◌, ap, [], outcome_of}
 use Rattle.std.proofs.lemmas.Result.{on_ok_weaker}
-use Rattle.zv_tool.specs.Parser.{outcome_of}
 use Rattle.zv_tool.proofs.Cutting.{last_line}
 use Rattle.zv_tool.proofs.parser.add_last.Goals as goal
 

@@ -1,8 +1,5 @@
-use Rattle.std.proofs.Common.{◌≡◌, ◌∷◌, ◌++◌, [], ◌∙◌, ap, Some, arith, rules}
-use Rattle.std.proofs.lemmas.List.Sums.{sum_by_push}
-use Rattle.zv_tool.specs.Commands.{total_size, command_size}
-use Rattle.zv_tool.specs.Input.{words, command_of_words, image_and}
-use Rattle.zv_tool.specs.Parser.{outcome_of, size_of}
+use Rattle.zv_tool.proofs.Common.{◌≡◌, ◌∷◌, ◌++◌, [], ◌∙◌, ap, Some, arith, rules, sum_by_push, total_size, command_size, words, command_of_words, image_and}
+use Rattle.zv_tool.proofs.Common.{outcome_of, size_of}
 use Rattle.zv_tool.proofs.Fields.{command_fits}
 use Rattle.zv_tool.proofs.Parsing.{one_more_command}
 use Rattle.zv_tool.proofs.parser.add_line.Goals as goal

@@ -1,7 +1,4 @@
-use Rattle.std.proofs.Common.{◌≡◌, ◌++◌, ◌∷◌, [], List, ℕ, length, ◌∙◌, ap, arith, rules, length-append}
-use Rattle.std.proofs.lemmas.List.Elements.{All-nil}
-use Rattle.zv_tool.specs.Input.{lines}
-use Rattle.zv_tool.specs.Parser.{outcome_of}
+use Rattle.zv_tool.proofs.Common.{◌≡◌, ◌++◌, ◌∷◌, [], List, ℕ, length, ◌∙◌, ap, arith, rules, length-append, lines, outcome_of, All-nil}
 use Rattle.zv_tool.proofs.Cutting.{line_of_parts}
 use Rattle.zv_tool.proofs.parser.add_lines.Goals as goal
 

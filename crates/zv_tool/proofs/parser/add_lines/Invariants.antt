@@ -1,6 +1,4 @@
-use Rattle.std.proofs.Common.{◌≡◌, ◌+◌, ◌≤◌, ◌++◌, List, ℕ, length}
-use Rattle.zv_tool.specs.Input.{lines}
-use Rattle.zv_tool.specs.Parser.{outcome_of, size_of}
+use Rattle.zv_tool.proofs.Common.{◌≡◌, ◌+◌, ◌≤◌, ◌++◌, List, ℕ, length, lines, outcome_of, size_of}
 use Rattle.zv_tool.proofs.parser.add_lines.Given as goal
 
 -- what the lines so far say, and those that are left

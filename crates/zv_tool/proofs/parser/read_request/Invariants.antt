@@ -1,5 +1,4 @@
-use Rattle.std.proofs.Common.{◌+◌, ◌≤◌}
-use Rattle.zv_tool.specs.Parser.{Lacks, kept_size}
+use Rattle.zv_tool.proofs.Common.{◌+◌, ◌≤◌, Lacks, kept_size}
 use Rattle.zv_tool.proofs.Parsing.{Parses}
 use Rattle.zv_tool.proofs.parser.read_request.Given as goal
 

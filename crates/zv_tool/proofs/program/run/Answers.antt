@@ -1,4 +1,4 @@
-use Rattle.std.proofs.Common.{rules}
+use Rattle.zv_tool.proofs.Common.{rules}
 use Rattle.zv_tool.proofs.Telling.{look_complete}
 use Rattle.zv_tool.proofs.program.run.Goals as goal
 

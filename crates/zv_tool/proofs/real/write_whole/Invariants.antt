@@ -1,5 +1,4 @@
-use Rattle.std.proofs.Common.{◌≤◌, ◌-◌, length, take}
-use Rattle.std.specs.Io.KnownBytes.{Appends}
+use Rattle.zv_tool.proofs.Common.{◌≤◌, ◌-◌, length, take, Appends}
 use Rattle.zv_tool.proofs.real.write_whole.Given as goal
 
 -- the writer took all that stands before the place

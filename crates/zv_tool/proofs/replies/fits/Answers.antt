@@ -1,5 +1,4 @@
-use Rattle.std.proofs.Common.{◌≡◌, ◌∙◌, rules}
-use Rattle.zv_map2d_laws.proofs.Kept.{fits_alike}
+use Rattle.zv_tool.proofs.Common.{◌≡◌, ◌∙◌, rules, fits_alike}
 use Rattle.zv_tool.proofs.replies.fits.Goals as goal
 
 pub returns : goal.returns

@@ -1,10 +1,5 @@
-use Rattle.std.proofs.Common.{◌≡◌, ◌∙◌, ℕ, List, Bool, false, true, ap, rules, sym}
-use Rattle.std.specs.Prelude.{if◌then◌else◌}
-use Rattle.std.specs.Option.{option_map_or}
-use Rattle.zv_map2d.specs.Fits.{fits_texts}
-use Rattle.zv_map2d.specs.Image.{by_bytes}
-use Rattle.zv_map2d.specs.Rows.{find}
-use Rattle.zv_tool.specs.Output.{Reply, added, old, text, too_large}
+use Rattle.zv_tool.proofs.Common.{◌≡◌, ◌∙◌, ℕ, List, Bool, false, true, ap, rules, sym, if◌then◌else◌, option_map_or, fits_texts, by_bytes, find, added, old}
+use Rattle.zv_tool.proofs.Common.{text, too_large, Reply}
 use Rattle.zv_tool.proofs.Sending.{sends_as}
 use Rattle.zv_tool.proofs.replies.put.Goals as goal
 

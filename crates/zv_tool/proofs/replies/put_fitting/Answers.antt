@@ -1,7 +1,5 @@
-use Rattle.std.proofs.Common.{◌≡◌, ◌∙◌, Bool, rules, true}
+use Rattle.zv_tool.proofs.Common.{◌≡◌, ◌∙◌, Bool, rules, true, fits_texts, fits_alike}
 use Rattle.zv_map.specs.Reserved.{IsTaken}
-use Rattle.zv_map2d.specs.Fits.{fits_texts}
-use Rattle.zv_map2d_laws.proofs.Kept.{fits_alike}
 use Rattle.zv_tool.proofs.replies.put_fitting.Goals as goal
 
 IsTaken-from : {takes : Bool} → takes ≡ true → IsTaken takes

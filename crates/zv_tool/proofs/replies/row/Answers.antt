@@ -1,9 +1,5 @@
-use Rattle.std.proofs.Common.{◌≡◌, ap, rules, Some}
-use Rattle.std.specs.Option.{option_map_or}
+use Rattle.zv_tool.proofs.Common.{◌≡◌, ap, rules, Some, option_map_or, by_bytes, left_of, missing, text, pairs}
 use Rattle.zv_map.specs.Maps.{look_up}
-use Rattle.zv_map2d.specs.Image.{by_bytes}
-use Rattle.zv_map.specs.Iters.{left_of}
-use Rattle.zv_tool.specs.Output.{missing, pairs, text}
 use Rattle.zv_tool.proofs.Sending.{sends_as, sends_cut, sends_then}
 use Rattle.zv_tool.proofs.replies.row.Goals as goal
 

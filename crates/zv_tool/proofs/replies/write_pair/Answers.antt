@@ -1,4 +1,4 @@
-use Rattle.std.proofs.Common.{rules}
+use Rattle.zv_tool.proofs.Common.{rules}
 use Rattle.zv_tool.proofs.Sending.{sends_cut, sends_then}
 use Rattle.zv_tool.proofs.replies.write_pair.Goals as goal
 

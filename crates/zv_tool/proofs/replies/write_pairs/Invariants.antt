@@ -1,6 +1,4 @@
-use Rattle.std.specs.List.{flat_map}
-use Rattle.zv_map.specs.Iters.{left_of}
-use Rattle.zv_tool.specs.Output.{pair_text}
+use Rattle.zv_tool.proofs.Common.{flat_map, left_of, pair_text}
 use Rattle.zv_tool.proofs.Sending.{Completes}
 use Rattle.zv_tool.proofs.replies.write_pairs.Given as goal
 

@@ -1,8 +1,5 @@
-use Rattle.std.proofs.Common.{◌≡◌, ◌+◌, ◌++◌, ◌∙◌, ℕ, suc, sym, ap, rules, drop, take, arith}
-use Rattle.std.proofs.lemmas.List.{drop_all}
-use Rattle.zv_tool.specs.Answers.{reply, next, last, reply_lines}
-use Rattle.zv_tool.specs.Output.{text}
-use Rattle.zv_tool.specs.Room.{put_sizes, sizes_of}
+use Rattle.zv_tool.proofs.Common.{◌≡◌, ◌+◌, ◌++◌, ◌∙◌, ℕ, suc, sym, ap, rules, drop, take, arith, reply, next, last, reply_lines, text, put_sizes, sizes_of}
+use Rattle.zv_tool.proofs.Common.{drop_all}
 use Rattle.zv_tool.proofs.PutRoom.{room_for_one, room_for_rest}
 use Rattle.zv_tool.proofs.Sending.{completes_more, completes_cut, completes_last, sends_as}
 use Rattle.zv_tool.proofs.Served.{ahead, at_err, last_more}
@@ -11,9 +8,8 @@ use Rattle.zv_tool.proofs.serving.run_commands.Goals as goal
 pub run_command-requires : goal.run_command-requires
 run_command-requires g c =
     let l = c.loop-command in
-    let cs = c.as_slice-command-items.result.now in
-    let is = ahead cs l.command-index c.command-item.result c.loop-command-test.true c.command-item.is in
-    room_for_one (sizes_of c.command-item.result) (put_sizes (drop (l.command-index + 1) cs)) l.map (rw is at l.invariant.room)
+    let is = ahead c.as_slice-command-items.result.now l.command-index c.command-item.result c.loop-command-test.true c.command-item.is in
+    room_for_one (sizes_of c.command-item.result) _ l.map (rw is at l.invariant.room)
 
 pub returns-in_err-run_command-clause-text : goal.returns-in_err-run_command-clause-text
 returns-in_err-run_command-clause-text g c =

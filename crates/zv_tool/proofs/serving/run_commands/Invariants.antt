@@ -1,6 +1,4 @@
-use Rattle.std.proofs.Common.{◌≡◌, drop, take}
-use Rattle.zv_tool.specs.Answers.{last, reply_lines}
-use Rattle.zv_tool.specs.Room.{HasRoomOf, put_sizes}
+use Rattle.zv_tool.proofs.Common.{◌≡◌, drop, take, last, reply_lines, HasRoomOf, put_sizes}
 use Rattle.zv_tool.proofs.Sending.{Completes}
 use Rattle.zv_tool.proofs.serving.run_commands.Given as goal
 

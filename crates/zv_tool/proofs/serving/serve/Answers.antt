@@ -1,6 +1,4 @@
-use Rattle.std.proofs.Common.{rules}
-use Rattle.zv_tool.specs.Answers.{answers}
-use Rattle.zv_tool.specs.Devices.{Takes}
+use Rattle.zv_tool.proofs.Common.{rules, answers, Takes}
 use Rattle.zv_tool.proofs.Sending.{takes_from}
 use Rattle.zv_tool.proofs.serving.serve.Goals as goal
 

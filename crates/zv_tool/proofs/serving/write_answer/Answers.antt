@@ -1,9 +1,4 @@
-use Rattle.std.proofs.Common.{◌≡◌, ◌++◌, ◌∙◌, List, ℕ, length, take_all, sym, ap, rules, arith}
-use Rattle.zv_map2d.specs.Frame.{frame}
-use Rattle.zv_map2d.specs.Image.{canon}
-use Rattle.zv_map2d.specs.Views.{bytes_of}
-use Rattle.zv_tool.specs.Answers.{last, reply_lines}
-use Rattle.zv_tool.specs.Output.{image_line}
+use Rattle.zv_tool.proofs.Common.{◌≡◌, ◌++◌, ◌∙◌, List, ℕ, length, take_all, sym, ap, rules, arith, frame, canon, bytes_of, last, reply_lines, image_line}
 use Rattle.zv_tool.proofs.Served.{at_err}
 use Rattle.zv_tool.proofs.Sending.{sends_as, sends_cut, sends_then}
 use Rattle.zv_tool.proofs.serving.write_answer.Goals as goal

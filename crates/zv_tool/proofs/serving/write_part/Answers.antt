@@ -1,5 +1,4 @@
-use Rattle.std.proofs.Common.{rules, ◌++◌, List, ℕ, sym, ap}
-use Rattle.zv_var.specs.Frame.{framed}
+use Rattle.zv_tool.proofs.Common.{rules, ◌++◌, List, ℕ, sym, ap, framed}
 use Rattle.zv_tool.proofs.HexText.{encode_cut}
 use Rattle.zv_tool.proofs.Sending.{sends_as, sends_cut, sends_then}
 use Rattle.zv_tool.proofs.serving.write_part.Goals as goal

@@ -1,16 +1,12 @@
-use Rattle.std.proofs.Common.{◌≡◌, ◌++◌, rules}
-use Rattle.hex.specs.Hex.{encode_lower}
-use Rattle.zv_map2d.specs.Frame.{frame}
-use Rattle.zv_map2d.specs.Views.{bytes_of}
+use Rattle.zv_tool.proofs.Common.{◌≡◌, ◌++◌, rules, encode_lower, frame, bytes_of, framed}
 use Rattle.zv_map2d.specs.declared.parts.Parts.{Parts}
-use Rattle.zv_var.specs.Frame.{framed}
-use Rattle.zv_tool.proofs.HexText.{encode_four}
+use Rattle.zv_tool.proofs.HexText.{encode_lower_append}
 use Rattle.zv_tool.proofs.Sending.{sends_as, sends_cut, sends_then}
 use Rattle.zv_tool.proofs.serving.write_parts.Goals as goal
 
 in_four : (p : Parts) → encode_lower (frame (bytes_of p)) ≡ encode_lower (framed p.keys0.now)
     ++ (encode_lower (framed p.joiner.now) ++ (encode_lower (framed p.keys1.now) ++ encode_lower (framed p.values.now)))
-in_four p = encode_four (framed p.keys0.now) (framed p.joiner.now) (framed p.keys1.now) (framed p.values.now)
+in_four p = simp encode_lower_append
 
 pub returns-in_err-write_part : goal.returns-in_err-write_part
 returns-in_err-write_part g c = sends_as (in_four c.args.parts) (sends_cut _ c.write_part.ensures (search rules) (search rules))

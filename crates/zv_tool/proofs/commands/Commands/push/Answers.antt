@@ -1,13 +1,9 @@
-use Rattle.std.proofs.Common.{◌∙◌, ap, sym, arith}
-use Rattle.std.proofs.lemmas.List.Sums.{sum_by_push}
+use Rattle.zv_tool.proofs.Common.{◌∙◌, ap, sym, arith, sum_by_push, command_size, total_size, all_puts, put_sizes, sizes_of, total_of}
 use Rattle.zv_tool.proofs.PutRoom.{one_within, put_sizes_push, puts_within}
-use Rattle.zv_tool.specs.Commands.{command_size, total_size}
-use Rattle.zv_tool.specs.Room.{all_puts, put_sizes, sizes_of, total_of}
 use Rattle.zv_tool.proofs.commands.Commands.push.Goals as goal
 
 pub add-requires : goal.add-requires
-add-requires c =
-    omega (arith, ap total_of c.self.invariant.2, puts_within c.self.inside.commands.items, one_within c.args.command)
+add-requires c = omega (arith, ap total_of c.self.invariant.2, puts_within c.self.inside.commands.items, one_within c.args.command)
 
 pub invariant_of-self-2 : goal.invariant_of-self-2
 invariant_of-self-2 c =

@@ -1,5 +1,4 @@
-use Rattle.std.proofs.Common.{arith}
-use Rattle.std.proofs.lemmas.Str.{is_utf8-from_IsUtf8}
+use Rattle.zv_tool.proofs.Common.{arith, is_utf8-from_IsUtf8}
 use Rattle.zv_tool.proofs.compact.CompactBytes+TEXT.new.Goals as goal
 
 pub copy_of-requires : goal.copy_of-requires

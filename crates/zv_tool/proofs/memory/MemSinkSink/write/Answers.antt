@@ -1,4 +1,4 @@
-use Rattle.std.proofs.Common.{◌≡◌, ◌++◌, take, rules}
+use Rattle.zv_tool.proofs.Common.{◌≡◌, ◌++◌, take, rules}
 use Rattle.zv_tool.proofs.memory.MemSinkSink.write.Goals as goal
 
 pub returns-then-fails-2-clause-bytes : goal.returns-then-fails-2-clause-bytes

@@ -1,5 +1,4 @@
-use Rattle.std.proofs.Common.{rules, append-nil, refl, sym}
-use Rattle.std.proofs.lemmas.List.{nil_from_length}
+use Rattle.zv_tool.proofs.Common.{rules, append-nil, refl, sym, nil_from_length}
 use Rattle.zv_tool.proofs.Sending.{sends_later}
 use Rattle.zv_tool.proofs.output.Output.send.Goals as goal
 

@@ -1,5 +1,4 @@
-use Rattle.std.proofs.Common.{◌++◌, List, ℕ, ◌∙◌, ap, append_assoc, rules}
-use Rattle.hex.specs.Hex.{encode_lower}
+use Rattle.zv_tool.proofs.Common.{◌++◌, List, ℕ, ◌∙◌, ap, append_assoc, rules, encode_lower}
 use Rattle.zv_tool.proofs.Sending.{sends_later}
 use Rattle.zv_tool.proofs.output.Output.write_field.Goals as goal
 

@@ -1,4 +1,4 @@
-use Rattle.std.proofs.Common.{rules}
+use Rattle.zv_tool.proofs.Common.{rules}
 use Rattle.zv_tool.proofs.HexText.{encode_cut, encode_none}
 use Rattle.zv_tool.proofs.Sending.{completes_more, completes_cut, completes_none}
 use Rattle.zv_tool.proofs.output.Output.write_hex.Goals as goal

@@ -1,6 +1,5 @@
-use Rattle.std.proofs.Common.{length}
+use Rattle.zv_tool.proofs.Common.{length, encode_lower}
 use Rattle.zv_tool.proofs.Sending.{Completes}
-use Rattle.hex.specs.Hex.{encode_lower}
 use Rattle.zv_tool.proofs.output.Output.write_hex.Given as goal
 
 abbrev pub invariant-loop-rest : goal.invariant-loop-rest

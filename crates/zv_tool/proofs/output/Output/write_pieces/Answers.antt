@@ -1,5 +1,4 @@
-use Rattle.std.proofs.Common.{rules, ◌≡◌, ◌++◌, refl}
-use Rattle.std.proofs.lemmas.List.{nil_from_length}
+use Rattle.zv_tool.proofs.Common.{rules, ◌≡◌, ◌++◌, refl, nil_from_length}
 use Rattle.zv_tool.proofs.Sending.{completes_more, completes_cut, completes_none, sends_then, sends_later}
 use Rattle.zv_tool.proofs.output.Output.write_pieces.Goals as goal
 

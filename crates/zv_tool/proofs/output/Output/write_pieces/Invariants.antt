@@ -1,4 +1,4 @@
-use Rattle.std.proofs.Common.{length}
+use Rattle.zv_tool.proofs.Common.{length}
 use Rattle.zv_tool.proofs.Sending.{Completes}
 use Rattle.zv_tool.proofs.output.Output.write_pieces.Given as goal
 

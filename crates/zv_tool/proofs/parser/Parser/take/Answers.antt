@@ -1,6 +1,4 @@
-use Rattle.std.proofs.Common.{◌≡◌, ◌∷◌, ◌++◌, ◌∙◌, ap, rules}
-use Rattle.zv_tool.specs.Input.{lines}
-use Rattle.zv_tool.specs.Parser.{outcome_of}
+use Rattle.zv_tool.proofs.Common.{◌≡◌, ◌∷◌, ◌++◌, ◌∙◌, ap, rules, lines, outcome_of}
 use Rattle.zv_tool.proofs.Cutting.{line_of_parts}
 use Rattle.zv_tool.proofs.parser.Parser.take.Goals as goal
 
