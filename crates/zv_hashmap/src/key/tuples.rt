@@ -1,13 +1,12 @@
 // Tuples as keys: their parts in turn.
 ghost use Rattle.std.specs.Prelude.{◌≡◌, ℕ, List, ◌++◌, refl};
 ghost use Rattle.std.proofs.lemmas.Map.Lookups.{exact_pairs};
-ghost use Rattle.zv_ule.specs.Pairs.{read_pair, read_three, read_four, read_five, read_six};
 ghost use Rattle.zv_hashmap.specs.Hashed.{Writes, hashed_two, hashed_three, hashed_four};
 ghost use Rattle.zv_hashmap.specs.Hashed.{hashed_five, hashed_six};
 ghost use Rattle.zv_hashmap.specs.Laws.{alike_by, exact_three, exact_four, exact_five, exact_six};
 
 use crate::key::{FixedKey, HashBytes};
-use zv_ule::load;
+use zv_ule::{AsULE, Tuple2ULE, Tuple3ULE, Tuple4ULE, Tuple5ULE, Tuple6ULE, ULE, load};
 use zv_xxhash::XxHash64;
 
 /// Writes the parts of a tuple to a hasher.
@@ -22,17 +21,17 @@ fn hash_two<A: FixedKey, B: FixedKey>(value: (A, B), hasher: &mut XxHash64)
 }
 
 impl<A: FixedKey, B: FixedKey> HashBytes for (A, B) {
-    ghost hashed = { λ b. hashed_two A.hashed_value B.hashed_value (read_pair A.ULE.width
-        (λ b. A.loaded (A.ULE.value b)) (λ b. B.loaded (B.ULE.value b)) b) };
+    ghost hashed = { λ b. hashed_two A.hashed_value B.hashed_value (⟦<(A, B) as AsULE>⟧.loaded
+        (⟦<Tuple2ULE<A::ULE, B::ULE> as ULE>⟧.value b)) };
 
     #[inline]
     fn hash_element(element: &[u8], hasher: &mut XxHash64) {
         hash_two(load::<(A, B)>(element), hasher);
     }
 
-    ghost alike = { alike_by (read_pair A.ULE.width (λ b. A.loaded (A.ULE.value b))
-        (λ b. B.loaded (B.ULE.value b))) (hashed_two A.hashed_value B.hashed_value) (exact_pairs
-        A.Ord.cmp B.Ord.cmp A.exact B.exact) };
+    ghost alike = { alike_by (λ b. ⟦<(A, B) as AsULE>⟧.loaded
+        (⟦<Tuple2ULE<A::ULE, B::ULE> as ULE>⟧.value b)) (hashed_two A.hashed_value B.hashed_value)
+        (exact_pairs A.Ord.cmp B.Ord.cmp A.exact B.exact) };
 }
 
 impl<A: FixedKey, B: FixedKey> FixedKey for (A, B) {
@@ -62,19 +61,18 @@ fn hash_three<A: FixedKey, B: FixedKey, C: FixedKey>(value: (A, B, C), hasher: &
 }
 
 impl<A: FixedKey, B: FixedKey, C: FixedKey> HashBytes for (A, B, C) {
-    ghost hashed = { λ b. hashed_three A.hashed_value B.hashed_value C.hashed_value (read_three
-        A.ULE.width B.ULE.width (λ b. A.loaded (A.ULE.value b)) (λ b. B.loaded (B.ULE.value b))
-        (λ b. C.loaded (C.ULE.value b)) b) };
+    ghost hashed = { λ b. hashed_three A.hashed_value B.hashed_value C.hashed_value
+        (⟦<(A, B, C) as AsULE>⟧.loaded (⟦<Tuple3ULE<A::ULE, B::ULE, C::ULE> as ULE>⟧.value b)) };
 
     #[inline]
     fn hash_element(element: &[u8], hasher: &mut XxHash64) {
         hash_three(load::<(A, B, C)>(element), hasher);
     }
 
-    ghost alike = { alike_by (read_three A.ULE.width B.ULE.width (λ b. A.loaded (A.ULE.value b))
-        (λ b. B.loaded (B.ULE.value b)) (λ b. C.loaded (C.ULE.value b))) (hashed_three
-        A.hashed_value B.hashed_value C.hashed_value) (exact_three A.Ord.cmp B.Ord.cmp C.Ord.cmp
-        A.exact B.exact C.exact) };
+    ghost alike = { alike_by (λ b. ⟦<(A, B, C) as AsULE>⟧.loaded
+        (⟦<Tuple3ULE<A::ULE, B::ULE, C::ULE> as ULE>⟧.value b)) (hashed_three A.hashed_value
+        B.hashed_value C.hashed_value) (exact_three A.Ord.cmp B.Ord.cmp C.Ord.cmp A.exact B.exact
+        C.exact) };
 }
 
 impl<A: FixedKey, B: FixedKey, C: FixedKey> FixedKey for (A, B, C) {
@@ -109,20 +107,18 @@ fn hash_four<A: FixedKey, B: FixedKey, C: FixedKey, D: FixedKey>(
 
 impl<A: FixedKey, B: FixedKey, C: FixedKey, D: FixedKey> HashBytes for (A, B, C, D) {
     ghost hashed = { λ b. hashed_four A.hashed_value B.hashed_value C.hashed_value D.hashed_value
-        (read_four A.ULE.width B.ULE.width C.ULE.width (λ b. A.loaded (A.ULE.value b))
-        (λ b. B.loaded (B.ULE.value b)) (λ b. C.loaded (C.ULE.value b))
-        (λ b. D.loaded (D.ULE.value b)) b) };
+        (⟦<(A, B, C, D) as AsULE>⟧.loaded
+        (⟦<Tuple4ULE<A::ULE, B::ULE, C::ULE, D::ULE> as ULE>⟧.value b)) };
 
     #[inline]
     fn hash_element(element: &[u8], hasher: &mut XxHash64) {
         hash_four(load::<(A, B, C, D)>(element), hasher);
     }
 
-    ghost alike = { alike_by (read_four A.ULE.width B.ULE.width C.ULE.width
-        (λ b. A.loaded (A.ULE.value b)) (λ b. B.loaded (B.ULE.value b))
-        (λ b. C.loaded (C.ULE.value b)) (λ b. D.loaded (D.ULE.value b))) (hashed_four
-        A.hashed_value B.hashed_value C.hashed_value D.hashed_value) (exact_four A.Ord.cmp
-        B.Ord.cmp C.Ord.cmp D.Ord.cmp A.exact B.exact C.exact D.exact) };
+    ghost alike = { alike_by (λ b. ⟦<(A, B, C, D) as AsULE>⟧.loaded
+        (⟦<Tuple4ULE<A::ULE, B::ULE, C::ULE, D::ULE> as ULE>⟧.value b)) (hashed_four A.hashed_value
+        B.hashed_value C.hashed_value D.hashed_value) (exact_four A.Ord.cmp B.Ord.cmp C.Ord.cmp
+        D.Ord.cmp A.exact B.exact C.exact D.exact) };
 }
 
 impl<A: FixedKey, B: FixedKey, C: FixedKey, D: FixedKey> FixedKey for (A, B, C, D) {
@@ -161,22 +157,19 @@ fn hash_five<A: FixedKey, B: FixedKey, C: FixedKey, D: FixedKey, E: FixedKey>(
 impl<A: FixedKey, B: FixedKey, C: FixedKey, D: FixedKey, E: FixedKey> HashBytes
     for (A, B, C, D, E) {
     ghost hashed = { λ b. hashed_five A.hashed_value B.hashed_value C.hashed_value D.hashed_value
-        E.hashed_value (read_five A.ULE.width B.ULE.width C.ULE.width D.ULE.width
-        (λ b. A.loaded (A.ULE.value b)) (λ b. B.loaded (B.ULE.value b))
-        (λ b. C.loaded (C.ULE.value b)) (λ b. D.loaded (D.ULE.value b))
-        (λ b. E.loaded (E.ULE.value b)) b) };
+        E.hashed_value (⟦<(A, B, C, D, E) as AsULE>⟧.loaded
+        (⟦<Tuple5ULE<A::ULE, B::ULE, C::ULE, D::ULE, E::ULE> as ULE>⟧.value b)) };
 
     #[inline]
     fn hash_element(element: &[u8], hasher: &mut XxHash64) {
         hash_five(load::<(A, B, C, D, E)>(element), hasher);
     }
 
-    ghost alike = { alike_by (read_five A.ULE.width B.ULE.width C.ULE.width D.ULE.width
-        (λ b. A.loaded (A.ULE.value b)) (λ b. B.loaded (B.ULE.value b))
-        (λ b. C.loaded (C.ULE.value b)) (λ b. D.loaded (D.ULE.value b))
-        (λ b. E.loaded (E.ULE.value b))) (hashed_five A.hashed_value B.hashed_value C.hashed_value
-        D.hashed_value E.hashed_value) (exact_five A.Ord.cmp B.Ord.cmp C.Ord.cmp D.Ord.cmp
-        E.Ord.cmp A.exact B.exact C.exact D.exact E.exact) };
+    ghost alike = { alike_by (λ b. ⟦<(A, B, C, D, E) as AsULE>⟧.loaded
+        (⟦<Tuple5ULE<A::ULE, B::ULE, C::ULE, D::ULE, E::ULE> as ULE>⟧.value b)) (hashed_five
+        A.hashed_value B.hashed_value C.hashed_value D.hashed_value E.hashed_value) (exact_five
+        A.Ord.cmp B.Ord.cmp C.Ord.cmp D.Ord.cmp E.Ord.cmp A.exact B.exact C.exact D.exact
+        E.exact) };
 }
 
 impl<A: FixedKey, B: FixedKey, C: FixedKey, D: FixedKey, E: FixedKey> FixedKey for (A, B, C, D, E) {
@@ -217,20 +210,16 @@ fn hash_six<A: FixedKey, B: FixedKey, C: FixedKey, D: FixedKey, E: FixedKey, F: 
 impl<A: FixedKey, B: FixedKey, C: FixedKey, D: FixedKey, E: FixedKey, F: FixedKey> HashBytes
     for (A, B, C, D, E, F) {
     ghost hashed = { λ b. hashed_six A.hashed_value B.hashed_value C.hashed_value D.hashed_value
-        E.hashed_value F.hashed_value (read_six A.ULE.width B.ULE.width C.ULE.width D.ULE.width
-        E.ULE.width (λ b. A.loaded (A.ULE.value b)) (λ b. B.loaded (B.ULE.value b))
-        (λ b. C.loaded (C.ULE.value b)) (λ b. D.loaded (D.ULE.value b))
-        (λ b. E.loaded (E.ULE.value b)) (λ b. F.loaded (F.ULE.value b)) b) };
+        E.hashed_value F.hashed_value (⟦<(A, B, C, D, E, F) as AsULE>⟧.loaded
+        (⟦<Tuple6ULE<A::ULE, B::ULE, C::ULE, D::ULE, E::ULE, F::ULE> as ULE>⟧.value b)) };
 
     #[inline]
     fn hash_element(element: &[u8], hasher: &mut XxHash64) {
         hash_six(load::<(A, B, C, D, E, F)>(element), hasher);
     }
 
-    ghost alike = { alike_by (read_six A.ULE.width B.ULE.width C.ULE.width D.ULE.width E.ULE.width
-        (λ b. A.loaded (A.ULE.value b)) (λ b. B.loaded (B.ULE.value b))
-        (λ b. C.loaded (C.ULE.value b)) (λ b. D.loaded (D.ULE.value b))
-        (λ b. E.loaded (E.ULE.value b)) (λ b. F.loaded (F.ULE.value b))) (hashed_six
+    ghost alike = { alike_by (λ b. ⟦<(A, B, C, D, E, F) as AsULE>⟧.loaded
+        (⟦<Tuple6ULE<A::ULE, B::ULE, C::ULE, D::ULE, E::ULE, F::ULE> as ULE>⟧.value b)) (hashed_six
         A.hashed_value B.hashed_value C.hashed_value D.hashed_value E.hashed_value F.hashed_value)
         (exact_six A.Ord.cmp B.Ord.cmp C.Ord.cmp D.Ord.cmp E.Ord.cmp F.Ord.cmp A.exact B.exact
         C.exact D.exact E.exact F.exact) };

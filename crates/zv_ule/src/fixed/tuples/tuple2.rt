@@ -4,7 +4,7 @@ ghost use Rattle.std.specs.Cmp.{on_total, then_total};
 ghost use Rattle.std.specs.Ordering.{on};
 ghost use Rattle.zv_ule.specs.Fixed.{is_width};
 ghost use Rattle.zv_ule.specs.Kinds.{one_fault};
-ghost use Rattle.zv_ule.specs.Pairs.{pair_fault, read_pair};
+ghost use Rattle.zv_ule.specs.Pairs.{pair_fault};
 ghost use Rattle.zv_ule.specs.laws.PairSpellings.{both_spelling, both_twin};
 ghost use Rattle.zv_ule.specs.laws.Spellings.{held_spelling, held_twins};
 ghost use Rattle.zv_ule.specs.declared.error.TyName.TheVariants.{Tuple2};
@@ -136,8 +136,8 @@ impl<A: AsULE, B: AsULE> AsULE for (A, B) {
 }
 
 impl<A: AsULE + Ord, B: AsULE + Ord> ZvOrd for (A, B) {
-    ghost cmp = { on
-        (read_pair A.ULE.width (λ b. A.loaded (A.ULE.value b)) (λ b. B.loaded (B.ULE.value b)))
+    ghost cmp = { on (λ b. ⟦<(A, B) as AsULE>⟧.loaded
+        (⟦<Tuple2ULE<A::ULE, B::ULE> as ULE>⟧.value b))
         ⟦<(A, B) as Ord>⟧.cmp };
 
     #[inline]
@@ -145,8 +145,8 @@ impl<A: AsULE + Ord, B: AsULE + Ord> ZvOrd for (A, B) {
         compare_stored::<(A, B), L>(a, b, steps)
     }
 
-    ghost total = { on_total
-        (read_pair A.ULE.width (λ b. A.loaded (A.ULE.value b)) (λ b. B.loaded (B.ULE.value b)))
+    ghost total = { on_total (λ b. ⟦<(A, B) as AsULE>⟧.loaded
+        (⟦<Tuple2ULE<A::ULE, B::ULE> as ULE>⟧.value b))
         (then_total (on_total (λ p. p.0) A.total) (on_total (λ p. p.1) B.total)) };
 }
 

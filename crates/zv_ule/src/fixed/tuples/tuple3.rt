@@ -4,7 +4,7 @@ ghost use Rattle.std.specs.Cmp.{on_total, then_total};
 ghost use Rattle.std.specs.Ordering.{on};
 ghost use Rattle.zv_ule.specs.Fixed.{is_width};
 ghost use Rattle.zv_ule.specs.Kinds.{one_fault};
-ghost use Rattle.zv_ule.specs.Pairs.{pair_fault, read_three};
+ghost use Rattle.zv_ule.specs.Pairs.{pair_fault};
 ghost use Rattle.zv_ule.specs.laws.PairSpellings.{both_spelling, both_twin};
 ghost use Rattle.zv_ule.specs.laws.Spellings.{held_spelling, held_twins};
 ghost use Rattle.zv_ule.specs.declared.error.TyName.TheVariants.{Tuple3};
@@ -149,9 +149,8 @@ impl<A: AsULE, B: AsULE, C: AsULE> AsULE for (A, B, C) {
 }
 
 impl<A: AsULE + Ord, B: AsULE + Ord, C: AsULE + Ord> ZvOrd for (A, B, C) {
-    ghost cmp = { on (read_three A.ULE.width B.ULE.width
-        (λ b. A.loaded (A.ULE.value b)) (λ b. B.loaded (B.ULE.value b))
-        (λ b. C.loaded (C.ULE.value b)))
+    ghost cmp = { on (λ b. ⟦<(A, B, C) as AsULE>⟧.loaded
+        (⟦<Tuple3ULE<A::ULE, B::ULE, C::ULE> as ULE>⟧.value b))
         ⟦<(A, B, C) as Ord>⟧.cmp };
 
     #[inline]
@@ -159,9 +158,8 @@ impl<A: AsULE + Ord, B: AsULE + Ord, C: AsULE + Ord> ZvOrd for (A, B, C) {
         compare_stored::<(A, B, C), L>(a, b, steps)
     }
 
-    ghost total = { on_total (read_three A.ULE.width B.ULE.width
-        (λ b. A.loaded (A.ULE.value b)) (λ b. B.loaded (B.ULE.value b))
-        (λ b. C.loaded (C.ULE.value b)))
+    ghost total = { on_total (λ b. ⟦<(A, B, C) as AsULE>⟧.loaded
+        (⟦<Tuple3ULE<A::ULE, B::ULE, C::ULE> as ULE>⟧.value b))
         (then_total (then_total (on_total (λ p. p.0) A.total) (on_total (λ p. p.1) B.total))
         (on_total (λ p. p.2) C.total)) };
 }

@@ -4,7 +4,7 @@ ghost use Rattle.std.specs.Cmp.{on_total, then_total};
 ghost use Rattle.std.specs.Ordering.{on};
 ghost use Rattle.zv_ule.specs.Fixed.{is_width};
 ghost use Rattle.zv_ule.specs.Kinds.{one_fault};
-ghost use Rattle.zv_ule.specs.Pairs.{pair_fault, read_four};
+ghost use Rattle.zv_ule.specs.Pairs.{pair_fault};
 ghost use Rattle.zv_ule.specs.laws.PairSpellings.{both_spelling, both_twin};
 ghost use Rattle.zv_ule.specs.laws.Spellings.{held_spelling, held_twins};
 ghost use Rattle.zv_ule.specs.declared.error.TyName.TheVariants.{Tuple4};
@@ -158,9 +158,8 @@ impl<A: AsULE, B: AsULE, C: AsULE, D: AsULE> AsULE for (A, B, C, D) {
 }
 
 impl<A: AsULE + Ord, B: AsULE + Ord, C: AsULE + Ord, D: AsULE + Ord> ZvOrd for (A, B, C, D) {
-    ghost cmp = { on (read_four A.ULE.width B.ULE.width C.ULE.width
-        (λ b. A.loaded (A.ULE.value b)) (λ b. B.loaded (B.ULE.value b))
-        (λ b. C.loaded (C.ULE.value b)) (λ b. D.loaded (D.ULE.value b)))
+    ghost cmp = { on (λ b. ⟦<(A, B, C, D) as AsULE>⟧.loaded
+        (⟦<Tuple4ULE<A::ULE, B::ULE, C::ULE, D::ULE> as ULE>⟧.value b))
         ⟦<(A, B, C, D) as Ord>⟧.cmp };
 
     #[inline]
@@ -168,9 +167,8 @@ impl<A: AsULE + Ord, B: AsULE + Ord, C: AsULE + Ord, D: AsULE + Ord> ZvOrd for (
         compare_stored::<(A, B, C, D), L>(a, b, steps)
     }
 
-    ghost total = { on_total (read_four A.ULE.width B.ULE.width C.ULE.width
-        (λ b. A.loaded (A.ULE.value b)) (λ b. B.loaded (B.ULE.value b))
-        (λ b. C.loaded (C.ULE.value b)) (λ b. D.loaded (D.ULE.value b)))
+    ghost total = { on_total (λ b. ⟦<(A, B, C, D) as AsULE>⟧.loaded
+        (⟦<Tuple4ULE<A::ULE, B::ULE, C::ULE, D::ULE> as ULE>⟧.value b))
         (then_total
         (then_total (then_total (on_total (λ p. p.0) A.total) (on_total (λ p. p.1) B.total))
         (on_total (λ p. p.2) C.total)) (on_total (λ p. p.3) D.total)) };

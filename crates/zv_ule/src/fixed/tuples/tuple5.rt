@@ -4,7 +4,7 @@ ghost use Rattle.std.specs.Cmp.{on_total, then_total};
 ghost use Rattle.std.specs.Ordering.{on};
 ghost use Rattle.zv_ule.specs.Fixed.{is_width};
 ghost use Rattle.zv_ule.specs.Kinds.{one_fault};
-ghost use Rattle.zv_ule.specs.Pairs.{pair_fault, read_five};
+ghost use Rattle.zv_ule.specs.Pairs.{pair_fault};
 ghost use Rattle.zv_ule.specs.laws.PairSpellings.{both_spelling, both_twin};
 ghost use Rattle.zv_ule.specs.laws.Spellings.{held_spelling, held_twins};
 ghost use Rattle.zv_ule.specs.declared.error.TyName.TheVariants.{Tuple5};
@@ -174,10 +174,8 @@ impl<A: AsULE, B: AsULE, C: AsULE, D: AsULE, E: AsULE> AsULE for (A, B, C, D, E)
 
 impl<A: AsULE + Ord, B: AsULE + Ord, C: AsULE + Ord, D: AsULE + Ord, E: AsULE + Ord> ZvOrd
     for (A, B, C, D, E) {
-    ghost cmp = { on (read_five A.ULE.width B.ULE.width C.ULE.width D.ULE.width
-        (λ b. A.loaded (A.ULE.value b)) (λ b. B.loaded (B.ULE.value b))
-        (λ b. C.loaded (C.ULE.value b)) (λ b. D.loaded (D.ULE.value b))
-        (λ b. E.loaded (E.ULE.value b)))
+    ghost cmp = { on (λ b. ⟦<(A, B, C, D, E) as AsULE>⟧.loaded
+        (⟦<Tuple5ULE<A::ULE, B::ULE, C::ULE, D::ULE, E::ULE> as ULE>⟧.value b))
         ⟦<(A, B, C, D, E) as Ord>⟧.cmp };
 
     #[inline]
@@ -185,10 +183,8 @@ impl<A: AsULE + Ord, B: AsULE + Ord, C: AsULE + Ord, D: AsULE + Ord, E: AsULE + 
         compare_stored::<(A, B, C, D, E), L>(a, b, steps)
     }
 
-    ghost total = { on_total (read_five A.ULE.width B.ULE.width C.ULE.width D.ULE.width
-        (λ b. A.loaded (A.ULE.value b)) (λ b. B.loaded (B.ULE.value b))
-        (λ b. C.loaded (C.ULE.value b)) (λ b. D.loaded (D.ULE.value b))
-        (λ b. E.loaded (E.ULE.value b)))
+    ghost total = { on_total (λ b. ⟦<(A, B, C, D, E) as AsULE>⟧.loaded
+        (⟦<Tuple5ULE<A::ULE, B::ULE, C::ULE, D::ULE, E::ULE> as ULE>⟧.value b))
         (then_total
         (then_total
         (then_total (then_total (on_total (λ p. p.0) A.total) (on_total (λ p. p.1) B.total))

@@ -4,7 +4,7 @@ ghost use Rattle.std.specs.Cmp.{on_total, then_total};
 ghost use Rattle.std.specs.Ordering.{on};
 ghost use Rattle.zv_ule.specs.Fixed.{is_width};
 ghost use Rattle.zv_ule.specs.Kinds.{one_fault};
-ghost use Rattle.zv_ule.specs.Pairs.{pair_fault, read_six};
+ghost use Rattle.zv_ule.specs.Pairs.{pair_fault};
 ghost use Rattle.zv_ule.specs.laws.PairSpellings.{both_spelling, both_twin};
 ghost use Rattle.zv_ule.specs.laws.Spellings.{held_spelling, held_twins};
 ghost use Rattle.zv_ule.specs.declared.error.TyName.TheVariants.{Tuple6};
@@ -217,10 +217,8 @@ impl<
     E: AsULE + Ord,
     F: AsULE + Ord,
 > ZvOrd for (A, B, C, D, E, F) {
-    ghost cmp = { on (read_six A.ULE.width B.ULE.width C.ULE.width D.ULE.width E.ULE.width
-        (λ b. A.loaded (A.ULE.value b)) (λ b. B.loaded (B.ULE.value b))
-        (λ b. C.loaded (C.ULE.value b)) (λ b. D.loaded (D.ULE.value b))
-        (λ b. E.loaded (E.ULE.value b)) (λ b. F.loaded (F.ULE.value b)))
+    ghost cmp = { on (λ b. ⟦<(A, B, C, D, E, F) as AsULE>⟧.loaded
+        (⟦<Tuple6ULE<A::ULE, B::ULE, C::ULE, D::ULE, E::ULE, F::ULE> as ULE>⟧.value b))
         ⟦<(A, B, C, D, E, F) as Ord>⟧.cmp };
 
     #[inline]
@@ -228,10 +226,8 @@ impl<
         compare_stored::<(A, B, C, D, E, F), L>(a, b, steps)
     }
 
-    ghost total = { on_total (read_six A.ULE.width B.ULE.width C.ULE.width D.ULE.width E.ULE.width
-        (λ b. A.loaded (A.ULE.value b)) (λ b. B.loaded (B.ULE.value b))
-        (λ b. C.loaded (C.ULE.value b)) (λ b. D.loaded (D.ULE.value b))
-        (λ b. E.loaded (E.ULE.value b)) (λ b. F.loaded (F.ULE.value b)))
+    ghost total = { on_total (λ b. ⟦<(A, B, C, D, E, F) as AsULE>⟧.loaded
+        (⟦<Tuple6ULE<A::ULE, B::ULE, C::ULE, D::ULE, E::ULE, F::ULE> as ULE>⟧.value b))
         (then_total
         (then_total
         (then_total
