@@ -2,6 +2,7 @@
 use Rattle.zv_tool.proofs.Common.{codes, ◌≡◌, ℕ, zero, suc, ◌+◌, ◌*◌, ◌/◌, ◌%◌, ◌<◌, ◌==◌, ◌&&◌, Bool, true, slice_index, List, [], ◌∷◌, ◌++◌, length, refl, ap}
 use Rattle.zv_tool.proofs.Common.{◌∙◌, arith, and_parts, eqb-true, encode_lower, lower_digits}
 use Rattle.hex.specs.Hex.{encode_with}
+use Rattle.zv_input.proofs.Decoding.{all_below, passes_below}
 
 encode_append : (t xs ys : List ℕ) → encode_with t (xs ++ ys) ≡ encode_with t xs ++ encode_with t ys
 unfolding encode_with
@@ -20,15 +21,6 @@ encode_none [] none = refl
 encode_none (b ∷ rest) none = absurd (omega arith)
 
 -- ---- tables
-
--- a test that every number below n passes
-abbrev pub all_below : (ℕ → Bool) → ℕ → Bool
-all_below test zero = true
-all_below test (suc n) = test n && all_below test n
-
-pub passes_below : (test : ℕ → Bool) (n k : ℕ) → all_below test n ≡ true → k < n → test k ≡ true
-passes_below test zero k all lt = absurd (omega arith)
-passes_below test (suc n) k all lt = let ih = passes_below test n k in grind arith
 
 -- whether a byte has its two digits in a table, one byte after another
 abbrev pub is_pair : List ℕ → ℕ → Bool

@@ -1,27 +1,9 @@
 -- What commands leave of a map of texts that can be written is one again.
-use Rattle.zv_tool.proofs.Common.{arith, ◌≡◌, ℕ, ◌+◌, true, List, [], ◌∷◌, Rows, Command, Get, Put, Del, Row, last, next, commands, lines, parse_lines, words}
-use Rattle.zv_tool.proofs.Common.{OfTexts, IfOk, AllByRecursion, IsTextMap, put_texts, del_texts, put_codable, del_codable, KeysAreTexts, LeftStands}
-use Rattle.zv_tool.specs.Input.{parse_input}
+use Rattle.zv_tool.proofs.Common.{arith, ◌≡◌, ℕ, true, List, [], ◌∷◌, Rows, Command, Get, Put, Del, Row, last, next}
+use Rattle.zv_tool.proofs.Common.{OfTexts, AllByRecursion, IsTextMap, put_texts, del_texts, put_codable, del_codable, LeftStands}
 use Rattle.zv_var.specs.Format.{Part, codable}
 use Rattle.zv_map2d_laws.specs.Laws.{IsCodable}
 use Rattle.zv_map2d_laws.proofs.Standing.{canon_stands}
-use Rattle.zv_tool.proofs.Fields.{command_is}
-
--- ---- keys are texts
-
-lines_texts : (n : ℕ) (ls : List (List ℕ)) → IfOk (commands n ls) (AllByRecursion OfTexts)
-lines_texts n [] = tt
-lines_texts n (line ∷ rest) = let one = command_is (words line) in let all = lines_texts (n + 1) rest in grind arith
-
-by_lines : (ls : List (List ℕ)) → IfOk (parse_lines ls) (λ parsed. AllByRecursion OfTexts parsed.1)
-by_lines [] = tt
-by_lines (first ∷ rest) = let all = lines_texts 2 rest in grind arith
-
-pub keys_are_texts : KeysAreTexts
-unfolding parse_input
-keys_are_texts text = by_lines (lines text)
-
--- ---- what is left
 
 next_kept : (m : Rows) (c : Command) → IsTextMap m → IsCodable m → OfTexts c → IsTextMap (next m c) × IsCodable (next m c)
 next_kept m (Get k0 k1) texts lists keys = (texts, lists)

@@ -3,7 +3,7 @@ use Rattle.zv_tool.proofs.Common.{◌≡◌, ℕ, ◌+◌, min, List, [], ◌++�
 use Rattle.zv_tool.proofs.Common.{IsOk, IsErr, OnOk, Option, Appends-trans, Appends, Takes, Appends-nil, take-append-add, take-append-le, take_min}
 use Rattle.zv_tool.proofs.Common.{AppendsPrefix}
 use Rattle.zv_tool.specs.Sending.{Sends}
-use Rattle.zv_tool.specs.declared.device.Failed.{Failed}
+use Rattle.zv_devices.specs.declared.device.Failed.{Failed}
 use Rattle.zv_tool.specs.declared.output.Output.{Output}
 
 -- ---- lists and prefixes

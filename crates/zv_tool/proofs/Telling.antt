@@ -3,7 +3,7 @@ use Rattle.zv_tool.proofs.Common.{◌≡◌, ◌∙◌, ◌⊎◌, ℕ, ◌+◌,
 use Rattle.zv_tool.proofs.Common.{Option, Command, MAX_INPUT, Status, BadLine, Memory, WriteFault, CutShort, Rose, Written, commands, lines, parse_lines}
 use Rattle.zv_tool.proofs.Common.{bad_line, Sent, is_answer, IsTrue, look_lines, FormText, FormWanted, RequestText, Tells, first_bad, form_of, is_look}
 use Rattle.zv_tool.proofs.Common.{status_of_form, status_of_look, status_of_request}
-use Rattle.zv_tool.specs.Input.{parse_input, look_input}
+use Rattle.zv_input.specs.Input.{parse_input, look_input}
 use Rattle.zv_tool.specs.declared.form.Form.{Form}
 use Rattle.zv_tool.specs.declared.form.Form.TheVariants.{Edit, Look}
 

@@ -1,17 +1,14 @@
 -- Worked rows of the definitions, computed.
-use Rattle.zv_tool.proofs.Common.{◌≡◌, ◌∷◌, [], ◌++◌, ℕ, List, length, refl, codes, Ok, Err, Some, None, true, false, replicate, canon, Rows, Command, Get, Put}
-use Rattle.zv_tool.proofs.Common.{Del, Row, MAX_INPUT, Status, Done, BadLine, BadImage, Memory, WriteFault, answers, last, reply_lines, total_size, lines}
-use Rattle.zv_tool.proofs.Common.{words, field, key, missing, added, old, too_large, text, image_line, bad_line, cause_line, is_answer, filter, map, ends}
-use Rattle.zv_tool.proofs.Common.{Usage, ReadFault, TooLong, replies, some, pairs, usage_line, is_edit, is_written, is_silent, code_of}
-use Rattle.std.specs.Str.{is_utf8, chars}
-use Rattle.hex.specs.Hex.{decode_pairs, encode_with}
-use Rattle.zv_tool.specs.Input.{parse_input}
+use Rattle.zv_tool.proofs.Common.{◌≡◌, ◌∷◌, [], ◌++◌, ℕ, List, length, refl, codes, true, false, replicate, canon, Rows, Command, Get, Put}
+use Rattle.zv_tool.proofs.Common.{Del, Row, Status, Done, BadLine, BadImage, Memory, WriteFault, answers, last, reply_lines, replies, some, pairs, usage_line}
+use Rattle.zv_tool.proofs.Common.{missing, added, old, too_large, text, image_line, bad_line, cause_line, is_answer, filter, map, ends, is_edit, is_written}
+use Rattle.zv_tool.proofs.Common.{Usage, ReadFault, TooLong, is_silent, code_of}
+use Rattle.hex.specs.Hex.{encode_with}
 use Rattle.std.specs.Fmt.{digits}
 use Rattle.zv_ule.specs.declared.error.TyName.TheVariants.{RawBytes4, VarZeroSlice}
 use Rattle.zv_ule.specs.declared.error.UleError.TheVariants.{InvalidLength, ParseError}
 use Rattle.zv_map2d.specs.declared.error.EditError.TheVariants.{Frame, Ule, Keys0Joiner, Keys1Values, JoinerOrder, JoinerEnd, KeyOrder}
 use Rattle.zv_map2d_laws.specs.Locales.{locales}
-use Rattle.zv_tool.specs.declared.commands.TheConstants.{MAX_COMMANDS}
 
 -- LF
 abbrev lf : List ℕ
@@ -26,58 +23,6 @@ b = codes "b"
 
 abbrev c : List ℕ
 c = codes "c"
-
--- ---- lines, words, fields
-
-lines_of_inputs : map lines ((codes "a" ++ lf ++ lf ++ codes "b") ∷ (codes "a" ++ lf) ∷ lf ∷ [] ∷ [])
-    ≡ (a ∷ [] ∷ b ∷ []) ∷ (a ∷ []) ∷ ([] ∷ []) ∷ [] ∷ []
-lines_of_inputs = refl
-
-words_of_two_spaces : words (codes "get  x") ≡ codes "get" ∷ [] ∷ codes "x" ∷ []
-words_of_two_spaces = refl
-
--- digits in either case, none, an odd number, a wrong one, and no mark
-fields : map field (codes "x0aFf" ∷ codes "x" ∷ codes "x0" ∷ codes "x0g" ∷ codes "00" ∷ []) ≡ Some (10 ∷ 255 ∷ []) ∷ Some [] ∷ None ∷ None ∷ None ∷ []
-unfolding decode_pairs
-fields = refl
-
--- two letters, and bytes that are no UTF-8
-keys : map key (codes "x6162" ∷ codes "xff" ∷ []) ≡ Some (codes "ab") ∷ None ∷ []
-unfolding decode_pairs is_utf8 chars lib.Utf8.encode
-keys = refl
-
--- ---- inputs
-
--- an image; a look-up; a last line without LF; every command, and a value that is no UTF-8; nothing; two spaces on line 3; a CR
-inputs : List (List ℕ)
-inputs =
-    (codes "x00ff" ++ lf)
-    ∷ (codes "x00" ++ lf ++ codes "get x61 x62" ++ lf)
-    ∷ (codes "x00" ++ lf ++ codes "get x61 x")
-    ∷ (codes "x00" ++ lf ++ codes "put x61 x xfF" ++ lf ++ codes "del x61 x62" ++ lf ++ codes "row x61" ++ lf)
-    ∷ []
-    ∷ (codes "x00" ++ lf ++ codes "get x61 x62" ++ lf ++ codes "get  x61 x62" ++ lf)
-    ∷ (codes "x00" ++ 13 ∷ lf)
-    ∷ []
-
-parsed : map parse_input inputs
-    ≡ Ok (0 ∷ 255 ∷ [], [])
-    ∷ Ok (0 ∷ [], Get a b ∷ [])
-    ∷ Ok (0 ∷ [], Get a [] ∷ [])
-    ∷ Ok (0 ∷ [], Put a [] (255 ∷ []) ∷ Del a b ∷ Row a ∷ [])
-    ∷ Err 1 ∷ Err 3 ∷ Err 1 ∷ []
-unfolding inputs parse_input decode_pairs is_utf8 chars lib.Utf8.encode
-parsed = refl
-
--- lines that are no commands: an empty one, one with another word, those with a word too few or too many, and those with half a
--- byte, or with bytes for a key that are no UTF-8
-bad_lines : List (List ℕ)
-bad_lines = [] ∷ codes "set x61 x62" ∷ codes "get x61" ∷ codes "put x61 x62" ∷ codes "put x61 x62 x01 x02" ∷ codes "del x61" ∷ codes "row x61 x62"
-    ∷ codes "put x61 x62 x0" ∷ codes "get xff x62" ∷ codes "row xff" ∷ []
-
-bad_second_lines : map (λ line. parse_input (codes "x00" ++ lf ++ line ++ lf)) bad_lines ≡ replicate 10 (Err 2)
-unfolding bad_lines parse_input decode_pairs is_utf8 chars lib.Utf8.encode
-bad_second_lines = refl
 
 -- ---- output
 
@@ -97,16 +42,10 @@ cause_texts : map cause_line (Frame ∷ Ule (InvalidLength RawBytes4 3) ∷ Ule 
     ∷ codes "joinerorder" ∷ codes "joinerend" ∷ codes "keyorder" ∷ [])
 cause_texts = refl
 
--- ---- words, sizes, limits and statuses
+-- ---- words and statuses
 
 edits : map is_edit ((codes "edit" ∷ []) ∷ (codes "edit" ∷ codes "more" ∷ []) ∷ [] ∷ []) ≡ true ∷ false ∷ false ∷ []
 edits = refl
-
-sizes : total_size (Get a (codes "bc") ∷ Get [] [] ∷ Put a [] (1 ∷ 2 ∷ []) ∷ Del [] b ∷ Row (codes "ab") ∷ []) ≡ 14
-sizes = refl
-
-limits : MAX_INPUT ∷ MAX_COMMANDS ∷ [] ≡ 16777216 ∷ 16777216 ∷ []
-limits = refl
 
 -- every status, in the order of the program's checks
 abbrev statuses : List Status

@@ -6,8 +6,8 @@ use Rattle.zv_map2d.specs.Fits.{fits_texts}
 use Rattle.zv_map2d.specs.Image.{by_bytes, canon, Stands}
 use Rattle.zv_map.specs.Maps.{look_up}
 use Rattle.zv_map2d.specs.Rows.{Rows, find, put, del}
-use Rattle.zv_tool.specs.declared.command.Command.{Command}
-use Rattle.zv_tool.specs.declared.command.Command.TheVariants.{Get, Put, Del, Row}
+use Rattle.zv_input.specs.declared.command.Command.{Command}
+use Rattle.zv_input.specs.declared.command.Command.TheVariants.{Get, Put, Del, Row}
 use Rattle.zv_tool.specs.Output.{Reply, some, missing, added, old, too_large, pairs}
 use Rattle.zv_tool.specs.Output.{text, image_line}
 

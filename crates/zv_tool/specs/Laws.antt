@@ -1,28 +1,14 @@
 -- The laws of commands, each the contract of a function.
-use Rattle.std.specs.Prelude.{◌≡◌, ℕ, ◌^◌, ◌<◌, ◌↔◌, List, [], length, None, IfOk}
+use Rattle.std.specs.Prelude.{◌≡◌, ℕ, ◌^◌, ◌<◌, ◌↔◌, List, [], length}
 use Rattle.std.specs.List.{AllByRecursion}
 use Rattle.zv_ule.specs.Bytes.{IsBytes}
-use Rattle.zv_ule.specs.Kinds.{text_fault}
 use Rattle.zv_map2d.specs.Image.{IsTextMap, Stands, canon}
 use Rattle.zv_map2d_laws.specs.Laws.{IsCodable}
 use Rattle.zv_map2d.specs.Rows.{Rows}
-use Rattle.zv_tool.specs.declared.command.Command.{Command}
-use Rattle.zv_tool.specs.declared.command.Command.TheVariants.{Get, Put, Del, Row}
+use Rattle.zv_input.specs.declared.command.Command.{Command}
+use Rattle.zv_input.specs.Laws.{OfTexts}
 use Rattle.zv_tool.specs.Answers.{answers, last}
-use Rattle.zv_tool.specs.Input.{parse_input}
 use Rattle.zv_tool.specs.Output.{image_line}
-
--- the keys of a command are texts
-abbrev pub OfTexts : Command → Type 0
-OfTexts (Get key0 key1) = (text_fault key0 ≡ None) × (text_fault key1 ≡ None)
-OfTexts (Put key0 key1 value) = (text_fault key0 ≡ None) × (text_fault key1 ≡ None)
-OfTexts (Del key0 key1) = (text_fault key0 ≡ None) × (text_fault key1 ≡ None)
-OfTexts (Row key0) = text_fault key0 ≡ None
-
--- an input's commands have texts for keys
-abbrev pub KeysAreTexts : Type 0
-KeysAreTexts =
-    (input : List ℕ) → IfOk (parse_input input) (λ parsed. AllByRecursion OfTexts parsed.1)
 
 -- where an image stands for a map, the canonical image of what commands leave of that map stands
 -- for what they leave

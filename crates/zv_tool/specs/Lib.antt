@@ -1,13 +1,6 @@
 pub mod Answers
-pub mod Commands
-pub mod Compact
-pub mod Devices
-pub mod Digits
-pub mod Input
 pub mod Laws
-pub mod Memory
 pub mod Output
-pub mod Parser
 pub mod Program
 pub mod Room
 pub mod Sending

@@ -9,18 +9,18 @@ use Rattle.std.specs.Io.KnownBytes.{Appends}
 use Rattle.zv_map2d.specs.declared.error.EditError.{EditError}
 use Rattle.zv_map2d.specs.Image.{Stands, fault}
 use Rattle.zv_map2d.specs.Rows.{Rows}
-use Rattle.zv_tool.specs.declared.command.Command.{Command}
-use Rattle.zv_tool.specs.declared.command.Command.TheVariants.{Get}
+use Rattle.zv_input.specs.declared.command.Command.{Command}
+use Rattle.zv_input.specs.declared.command.Command.TheVariants.{Get}
 use Rattle.zv_tool.specs.declared.form.Form.{Form}
 use Rattle.zv_tool.specs.declared.form.Form.TheVariants.{Edit, Look}
 use Rattle.zv_tool.specs.declared.status.Status.{Status}
 use Rattle.zv_tool.specs.declared.status.Status.TheVariants.{Done, Usage, ReadFault, TooLong}
 use Rattle.zv_tool.specs.declared.status.Status.TheVariants.{BadLine, BadImage, Memory, WriteFault}
-use Rattle.zv_tool.specs.declared.input.TheConstants.{MAX_INPUT}
+use Rattle.zv_input.specs.declared.input.TheConstants.{MAX_INPUT}
 use Rattle.zv_tool.specs.Answers.{IsAnswer, reply}
-use Rattle.zv_tool.specs.Devices.{Rose, AppendsPrefix, CutShort, Written}
-use Rattle.zv_tool.specs.Digits.{◌>>=◌}
-use Rattle.zv_tool.specs.Input.{key, look_input, parse_input, three_words}
+use Rattle.zv_devices.specs.Devices.{Rose, AppendsPrefix, CutShort, Written}
+use Rattle.zv_input.specs.Digits.{◌>>=◌}
+use Rattle.zv_input.specs.Input.{key, look_input, parse_input, three_words}
 use Rattle.zv_tool.specs.Output.{bad_line, cause_line, text, usage_line}
 
 -- ---- the forms of a command

@@ -2,8 +2,8 @@
 use Rattle.std.specs.Prelude.{◌≡◌, ℕ, List, ◌++◌, Result, MatchResult}
 use Rattle.std.specs.declared.option.Option.{Option}
 use Rattle.std.specs.Io.KnownBytes.{Appends}
-use Rattle.zv_tool.specs.Devices.{HasCause, AppendsPrefix}
-use Rattle.zv_tool.specs.declared.device.Failed.{Failed}
+use Rattle.zv_devices.specs.Devices.{HasCause, AppendsPrefix}
+use Rattle.zv_devices.specs.declared.device.Failed.{Failed}
 use Rattle.zv_tool.specs.declared.output.Output.{Output}
 
 -- Ok: of what waited and the text, a part was sent and the rest waits. Err: a prefix was sent.

@@ -3,13 +3,13 @@ ghost use Rattle.std.specs.Prelude.{◌≡◌, ◌≤◌, IsTrue, IfErr, OnOk, I
 ghost use Rattle.zv_map2d.specs.Causes.{is_cause};
 ghost use Rattle.zv_map2d.specs.Image.{fault};
 ghost use Rattle.zv_tool.specs.Answers.{IsAnswer};
-ghost use Rattle.zv_tool.specs.Devices.{Rose, Written, CutShort};
+ghost use Rattle.zv_devices.specs.Devices.{Rose, Written, CutShort};
 
-use crate::commands::Commands;
-use crate::device::{Failed, Sink};
 use crate::room::reserve;
 use crate::serving::serve;
 use std::alloc::Global;
+use zv_devices::{Failed, Sink};
+use zv_input::Commands;
 use zv_map2d::{EditError, parse_image};
 
 /// Runs commands on the map of an image, in order: a reply for each, and the line of the canonical

@@ -1,12 +1,11 @@
 // The forms of a command.
 ghost use Rattle.std.specs.Prelude.{◌≡◌, IfOk, IsTrue, MatchOption, None, OnErr, Some};
-ghost use Rattle.zv_tool.specs.Input.{three_words};
+ghost use Rattle.zv_input.specs.Input.{three_words};
 ghost use Rattle.zv_tool.specs.Program.{form_of, is_edit, look_keys, look_of, names_form};
 
-use crate::command::KeyText;
-use crate::field::read_key;
 use crate::words::Words;
 use std::alloc::Global;
+use zv_input::{KeyText, read_key};
 use zv_ule::NoMemory;
 
 /// What the words of the command line ask for.

@@ -1,5 +1,6 @@
 // What an edit leaves.
-ghost use Rattle.zv_tool.specs.Laws.{KeysAreTexts, LeftStands, SameEdits, WrittenBack};
+ghost use Rattle.zv_tool.specs.Laws.{LeftStands, SameEdits, WrittenBack};
+ghost use Rattle.zv_input.specs.Laws.{KeysAreTexts};
 
 /// The image that an edit ends with can be edited again: it stands for the map that the commands
 /// left. Two images are those of one map exactly where an edit with no commands writes the same for

@@ -5,17 +5,17 @@ ghost use Rattle.zv_ule.specs.Views.{element_of};
 ghost use Rattle.zv_map2d.specs.Causes.{is_cause};
 ghost use Rattle.zv_map2d.specs.Image.{Stands, by_bytes, fault};
 ghost use Rattle.zv_map2d.specs.Rows.{Rows, find};
-ghost use Rattle.zv_tool.specs.Devices.{HasCause, Takes};
+ghost use Rattle.zv_devices.specs.Devices.{HasCause, Takes};
 ghost use Rattle.zv_tool.specs.Output.{found_line};
 ghost use Rattle.zv_tool.specs.Program.{LookedText, Tells, status_of_image};
 ghost use Rattle.zv_tool.specs.Sending.{Sends};
 
-use crate::command::KeyText;
-use crate::device::{Failed, Sink};
 use crate::output::Output;
 use crate::program::{cause_text, send};
 use crate::replies::write_value;
 use crate::status::Status;
+use zv_devices::{Failed, Sink};
+use zv_input::KeyText;
 use zv_map2d::{EditError, parse_image};
 use zv_ule::{SliceULE, VarRef};
 

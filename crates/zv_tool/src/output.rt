@@ -3,9 +3,9 @@ ghost use Rattle.std.specs.Prelude.{◌≡◌, ◌<◌, ◌≤◌, [], ◌++◌,
 ghost use Rattle.hex.specs.Hex.{encode_lower};
 ghost use Rattle.zv_tool.specs.Sending.{Sends};
 
-use crate::device::{Failed, Sink};
 use crate::digits::encode_to;
 use crate::piece::Piece;
+use zv_devices::{Failed, Sink};
 
 // How many bytes are added as hex at once.
 const FEW: usize = 64;

@@ -2,8 +2,8 @@
 ghost use Rattle.std.specs.Prelude.{◌≡◌, ◌⊎◌, ◌<◌, ◌≤◌, IsTrue, IsFalse, IfSome, None, length};
 ghost use Rattle.std.specs.Io.KnownBytes.{IsAtEnd};
 ghost use Rattle.zv_map2d.specs.Causes.{is_cause};
-ghost use Rattle.zv_tool.specs.Devices.{Rose, Written, CutShort};
-ghost use Rattle.zv_tool.specs.Input.{look_input, parse_input};
+ghost use Rattle.zv_devices.specs.Devices.{Rose, Written, CutShort};
+ghost use Rattle.zv_input.specs.Input.{look_input, parse_input};
 ghost use Rattle.zv_tool.specs.Output.{bad_line, cause_line};
 ghost use Rattle.zv_tool.specs.Program.{form_of, is_edit, is_look, names_form};
 ghost use Rattle.zv_tool.specs.Program.{is_answer, is_silent, is_written};
@@ -12,16 +12,14 @@ ghost use Rattle.zv_tool.specs.Program.{IsWantedStatus, Sent, Tells, status_of_f
 ghost use Rattle.zv_tool.specs.Program.{status_of_image, status_of_look, status_of_parsed};
 ghost use Rattle.zv_tool.specs.Program.{status_of_request};
 
-use crate::device::{Failed, Sink, Source};
 use crate::edit::edit2d;
 use crate::form::{Form, read_form};
-use crate::input::{MAX_INPUT, ReadError};
 use crate::look;
-use crate::parse::{InputError, Request};
-use crate::parser::read_request;
 use crate::status::Status;
 use crate::words::Words;
 use std::alloc::Global;
+use zv_devices::{Failed, Sink, Source};
+use zv_input::{InputError, MAX_INPUT, ReadError, Request, read_request};
 use zv_map2d::EditError;
 use zv_ule::{NoMemory, UleError};
 

@@ -11,12 +11,13 @@ ghost use Rattle.zv_map2d.specs.Rows.{find, put};
 ghost use Rattle.zv_ule.specs.Views.{element_of};
 ghost use Rattle.zv_tool.specs.Answers.{reply, next};
 ghost use Rattle.zv_tool.specs.Output.{added, line, old, pair_text, text};
-ghost use Rattle.zv_tool.specs.Room.{HasRoomOf, SpendsOf, sizes_of};
+ghost use Rattle.zv_tool.specs.Room.{HasRoomOf, SpendsOf};
+ghost use Rattle.zv_input.specs.Sizes.{sizes_of};
 ghost use Rattle.zv_tool.specs.Sending.{Sends};
 
-use crate::command::{Command, KeyText, ValueBytes};
-use crate::device::{Failed, Sink};
 use crate::output::Output;
+use zv_devices::{Failed, Sink};
+use zv_input::{Command, KeyText, ValueBytes};
 use zv_map2d::{Iter1, Place, ZeroMap2d};
 use zv_ule::{SliceULE, StrULE, VarRef};
 

@@ -5,15 +5,16 @@ ghost use Rattle.zv_map2d.specs.Frame.{frame};
 ghost use Rattle.zv_map2d.specs.Views.{bytes_of};
 ghost use Rattle.zv_var.specs.Frame.{framed};
 ghost use Rattle.zv_tool.specs.Answers.{answers, last, reply_lines};
-ghost use Rattle.zv_tool.specs.Devices.{HasCause, Takes};
+ghost use Rattle.zv_devices.specs.Devices.{HasCause, Takes};
 ghost use Rattle.zv_tool.specs.Output.{image_line};
-ghost use Rattle.zv_tool.specs.Room.{HasRoomOf, put_sizes};
+ghost use Rattle.zv_tool.specs.Room.{HasRoomOf};
+ghost use Rattle.zv_input.specs.Sizes.{put_sizes};
 ghost use Rattle.zv_tool.specs.Sending.{Sends};
 
-use crate::commands::Commands;
-use crate::device::{Failed, Sink};
 use crate::output::Output;
 use crate::replies::{ImageMap, run_command};
+use zv_devices::{Failed, Sink};
+use zv_input::Commands;
 use zv_map2d::Parts;
 use zv_var::frame::part_len;
 

@@ -1,5 +1,6 @@
 use Rattle.zv_tool.proofs.Edits.{same_edits, written_back}
-use Rattle.zv_tool.proofs.Left.{keys_are_texts, left_stands}
+use Rattle.zv_input.proofs.Texts.{keys_are_texts}
+use Rattle.zv_tool.proofs.Left.{left_stands}
 use Rattle.zv_tool.proofs.laws.laws.Goals as goal
 
 pub returns : goal.returns

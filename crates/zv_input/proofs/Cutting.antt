@@ -1,0 +1,83 @@
+-- The pieces of a text: its first piece, its lines and its words.
+use Rattle.zv_input.proofs.Common.{◌≡◌, ℕ, ◌+◌, ◌-◌, ◌<◌, ◌≤◌, List, [], ◌∷◌, ◌++◌, length, get_or, take, drop, true, false, refl, sym, ap, ◌∙◌, subst, arith}
+use Rattle.zv_input.proofs.Common.{Some, None, append_assoc, add-one, Option, slice_split, eqb-true, take_all, take_rest, length-take, slice_split_at}
+use Rattle.zv_input.proofs.Common.{slice_split_none, length-slice_split, is_byte, ◌>>=◌, field, key, lines, words, Lacks, first_of, eq-eqb, option_and_then}
+use Rattle.zv_input.proofs.Common.{split_at, get_or-take, false_from_ne_true, All-append, All-from_get_or, content_of, without_empty_last, after_mark}
+use Rattle.zv_input.proofs.Common.{words_after}
+
+module _ (byte : ℕ) (text : List ℕ) where
+  -- no byte is this one before the first
+  pub lacks_before : (end : ℕ) → ((k : ℕ) → 0 ≤ k → k < end → is_byte byte (get_or text k 0) ≡ true → ⊥) → Lacks byte (take end text)
+  lacks_before end none =
+      All-from_get_or (λ b. is_byte byte b ≡ false) (take end text) 0
+      (λ i lt. let low : i < end = omega (arith, length-take end text) in rw (get_or-take end text i 0 low) (false_from_ne_true _ (none i (omega arith) low)))
+
+  -- the text is what stands before a byte, the byte and what follows it
+  pub cut_around : (end : ℕ) → end < length text → is_byte byte (get_or text end 0) ≡ true
+      → text ≡ take end text ++ byte ∷ take (length text - (end + 1)) (drop (end + 1) text)
+  cut_around end within found =
+      let same : get_or text end 0 ≡ byte = eqb-true (get_or text end 0) byte found in
+      let at : text ≡ take end text ++ get_or text end 0 ∷ drop (end + 1) text = rw (add-one end) (split_at text end 0 within) in
+      rw (take_rest text (end + 1)) (subst (λ b. text ≡ take end text ++ b ∷ drop (end + 1) text) same at)
+
+  pub split_around : (end : ℕ) → Lacks byte (take end text) → text ≡ take end text ++ byte ∷ take (length text - (end + 1)) (drop (end + 1) text)
+      → slice_split (is_byte byte) text ≡ take end text ∷ slice_split (is_byte byte) (take (length text - (end + 1)) (drop (end + 1) text))
+  split_around end before cut = ap (slice_split (is_byte byte)) cut ∙ slice_split_at (is_byte byte) (take end text) byte _ before (eq-eqb byte byte refl)
+
+-- a piece before others is kept
+kept : (piece : List ℕ) (rest : List (List ℕ)) → 0 < length rest → without_empty_last (piece ∷ rest) ≡ piece ∷ without_empty_last rest
+kept piece rest some = grind arith
+
+-- a line and its LF
+pub line_and : (line rest : List ℕ) → Lacks 10 line → lines (line ++ 10 ∷ rest) ≡ line ∷ lines rest
+line_and line rest lacks =
+    ap without_empty_last (slice_split_at (is_byte 10) line 10 rest lacks refl)
+    ∙ kept line (slice_split (is_byte 10) rest) (omega (arith, length-slice_split (is_byte 10) rest))
+
+-- a line that came in two parts
+pub line_of_parts : (tail piece more rest after : List ℕ) → Lacks 10 tail → Lacks 10 more → piece ≡ more ++ 10 ∷ rest
+    → lines (tail ++ (piece ++ after)) ≡ (tail ++ more) ∷ lines (rest ++ after)
+line_of_parts tail piece more rest after lacks_tail lacks_more is =
+    let whole : tail ++ (piece ++ after) ≡ (tail ++ more) ++ 10 ∷ (rest ++ after) =
+    ap (λ x. tail ++ (x ++ after)) is ∙ ap (λ x. tail ++ x) (append_assoc more (10 ∷ rest) after) ∙ sym (append_assoc tail more (10 ∷ (rest ++ after))) in
+    ap lines whole ∙ line_and (tail ++ more) (rest ++ after) (All-append (λ b. is_byte 10 b ≡ false) tail more lacks_tail lacks_more)
+
+-- a line with no LF
+pub last_line : (line : List ℕ) → Lacks 10 line → 0 < length line → lines line ≡ line ∷ []
+last_line line lacks some = let whole = slice_split_none (is_byte 10) line lacks in grind arith
+
+-- ---- words
+
+-- a text whose first word ends where it does
+pub last_word : (text : List ℕ) (len : ℕ) → length text ≤ len → Lacks 32 (take len text) → words text ≡ take len text ∷ []
+last_word text len all lacks = rw (take_all len text all) (slice_split_none (is_byte 32) text (subst (Lacks 32) (take_all len text all) lacks))
+
+-- or at a space
+pub word_and : (text : List ℕ) (len : ℕ) → len < length text → get_or text len 0 ≡ 32 → Lacks 32 (take len text)
+    → words text ≡ take len text ∷ words (take (length text - (len + 1)) (drop (len + 1) text))
+word_and text len within space lacks = split_around 32 text len lacks (cut_around 32 text len within (ap (is_byte 32) space))
+
+-- what a reading of fields by their digits gives at the first word of a text
+module _ {A : Type 0} (read inner : List ℕ → Option A) (is : (word : List ℕ) → read word ≡ (after_mark word >>= inner)) where
+  first_marked : (text : List ℕ) → first_of read (words text) ≡ (after_mark text >>= (λ d. first_of inner (words d)))
+  first_marked [] = rw (is []) refl
+  first_marked (b ∷ rest) = let some = length-slice_split (is_byte 32) rest in grind (arith, is)
+
+  first_field : (text : Option (List ℕ)) (digits : List ℕ) → Some digits ≡ option_and_then after_mark text
+      → first_of read (words_after text) ≡ first_of inner (words digits)
+  first_field None digits marked = cc
+  first_field (Some text) digits marked = first_marked text ∙ ap (λ o. o >>= (λ d. first_of inner (words d))) (sym marked)
+
+key_digits : (word : List ℕ) → key word ≡ (after_mark word >>= content_of 1)
+key_digits word = grind arith
+
+field_digits : (word : List ℕ) → field word ≡ (after_mark word >>= content_of 0)
+field_digits word = grind arith
+
+pub first_key : (text : Option (List ℕ)) (digits : List ℕ) → Some digits ≡ option_and_then after_mark text
+    → first_of key (words_after text) ≡ first_of (content_of 1) (words digits)
+first_key = first_field key (content_of 1) key_digits
+
+pub first_value : (text : Option (List ℕ)) (digits : List ℕ) → Some digits ≡ option_and_then after_mark text
+    → first_of field (words_after text) ≡ first_of (content_of 0) (words digits)
+first_value = first_field field (content_of 0) field_digits

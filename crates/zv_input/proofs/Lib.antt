@@ -1,0 +1,8 @@
+mod Worked
+pub mod Common
+pub mod Cutting
+pub mod Decoding
+pub mod Fields
+pub mod Parsing
+pub mod SizesOfPuts
+pub mod Texts

@@ -1,0 +1,79 @@
+-- Worked rows of the definitions, computed.
+use Rattle.zv_input.proofs.Common.{◌≡◌, ◌∷◌, [], ◌++◌, ℕ, List, refl, codes, Ok, Err, Some, None, replicate, map, Get, Put, Del, Row}
+use Rattle.zv_input.proofs.Common.{total_size, lines, words, field, key}
+use Rattle.std.specs.Str.{is_utf8, chars}
+use Rattle.hex.specs.Hex.{decode_pairs}
+use Rattle.zv_input.specs.Input.{parse_input}
+use Rattle.zv_input.specs.declared.commands.TheConstants.{MAX_COMMANDS}
+use Rattle.zv_input.specs.declared.input.TheConstants.{MAX_INPUT}
+
+-- LF
+abbrev lf : List ℕ
+lf = 10 ∷ []
+
+-- keys of one letter
+abbrev a : List ℕ
+a = codes "a"
+
+abbrev b : List ℕ
+b = codes "b"
+
+-- ---- lines, words, fields
+
+lines_of_inputs : map lines ((codes "a" ++ lf ++ lf ++ codes "b") ∷ (codes "a" ++ lf) ∷ lf ∷ [] ∷ [])
+    ≡ (a ∷ [] ∷ b ∷ []) ∷ (a ∷ []) ∷ ([] ∷ []) ∷ [] ∷ []
+lines_of_inputs = refl
+
+words_of_two_spaces : words (codes "get  x") ≡ codes "get" ∷ [] ∷ codes "x" ∷ []
+words_of_two_spaces = refl
+
+-- digits in either case, none, an odd number, a wrong one, and no mark
+fields : map field (codes "x0aFf" ∷ codes "x" ∷ codes "x0" ∷ codes "x0g" ∷ codes "00" ∷ []) ≡ Some (10 ∷ 255 ∷ []) ∷ Some [] ∷ None ∷ None ∷ None ∷ []
+unfolding decode_pairs
+fields = refl
+
+-- two letters, and bytes that are no UTF-8
+keys : map key (codes "x6162" ∷ codes "xff" ∷ []) ≡ Some (codes "ab") ∷ None ∷ []
+unfolding decode_pairs is_utf8 chars lib.Utf8.encode
+keys = refl
+
+-- ---- inputs
+
+-- an image; a look-up; a last line without LF; every command, and a value that is no UTF-8; nothing; two spaces on line 3; a CR
+inputs : List (List ℕ)
+inputs =
+    (codes "x00ff" ++ lf)
+    ∷ (codes "x00" ++ lf ++ codes "get x61 x62" ++ lf)
+    ∷ (codes "x00" ++ lf ++ codes "get x61 x")
+    ∷ (codes "x00" ++ lf ++ codes "put x61 x xfF" ++ lf ++ codes "del x61 x62" ++ lf ++ codes "row x61" ++ lf)
+    ∷ []
+    ∷ (codes "x00" ++ lf ++ codes "get x61 x62" ++ lf ++ codes "get  x61 x62" ++ lf)
+    ∷ (codes "x00" ++ 13 ∷ lf)
+    ∷ []
+
+parsed : map parse_input inputs
+    ≡ Ok (0 ∷ 255 ∷ [], [])
+    ∷ Ok (0 ∷ [], Get a b ∷ [])
+    ∷ Ok (0 ∷ [], Get a [] ∷ [])
+    ∷ Ok (0 ∷ [], Put a [] (255 ∷ []) ∷ Del a b ∷ Row a ∷ [])
+    ∷ Err 1 ∷ Err 3 ∷ Err 1 ∷ []
+unfolding inputs parse_input decode_pairs is_utf8 chars lib.Utf8.encode
+parsed = refl
+
+-- lines that are no commands: an empty one, one with another word, those with a word too few or too many, and those with half a
+-- byte, or with bytes for a key that are no UTF-8
+bad_lines : List (List ℕ)
+bad_lines = [] ∷ codes "set x61 x62" ∷ codes "get x61" ∷ codes "put x61 x62" ∷ codes "put x61 x62 x01 x02" ∷ codes "del x61" ∷ codes "row x61 x62"
+    ∷ codes "put x61 x62 x0" ∷ codes "get xff x62" ∷ codes "row xff" ∷ []
+
+bad_second_lines : map (λ line. parse_input (codes "x00" ++ lf ++ line ++ lf)) bad_lines ≡ replicate 10 (Err 2)
+unfolding bad_lines parse_input decode_pairs is_utf8 chars lib.Utf8.encode
+bad_second_lines = refl
+
+-- ---- sizes and limits
+
+sizes : total_size (Get a (codes "bc") ∷ Get [] [] ∷ Put a [] (1 ∷ 2 ∷ []) ∷ Del [] b ∷ Row (codes "ab") ∷ []) ≡ 14
+sizes = refl
+
+limits : MAX_INPUT ∷ MAX_COMMANDS ∷ [] ≡ 16777216 ∷ 16777216 ∷ []
+limits = refl

@@ -1,0 +1,53 @@
+// Lines and words.
+ghost use Rattle.std.specs.Prelude.{◌≡◌, ◌<◌, ◌≤◌, [], ◌∷◌, ◌++◌, length, take};
+ghost use Rattle.std.specs.Prelude.{IfSome, MatchOption};
+ghost use Rattle.std.specs.List.{slice_split};
+ghost use Rattle.std.specs.Option.{option_copied};
+ghost use Rattle.memchr.specs.Find.{is_byte};
+ghost use Rattle.zv_input.specs.Input.{lines, words};
+ghost use Rattle.zv_input.specs.Parser.{Lacks, words_after};
+
+use memchr::memchr;
+
+/// What stands before the first such byte, and what follows it, if there is one.
+#[inline(always)]
+pub(crate) fn split_at_byte(byte: u8, text: &[u8]) -> (&[u8], Option<&[u8]>)
+    ensures split { MatchOption result.1
+        (slice_split (is_byte byte) text.now ≡ text.now ∷ [])
+        (λ rest. slice_split (is_byte byte) text.now
+        ≡ result.0.now ∷ slice_split (is_byte byte) rest.now) }
+    ensures before { Lacks byte result.0.now }
+    ensures cut { MatchOption result.1 (result.0.now ≡ text.now)
+        (λ rest. text.now ≡ result.0.now ++ byte ∷ rest.now) }
+{
+    match memchr(byte, text) {
+        Some(end) => (&text[..end], Some(&text[end + 1..])),
+        None => (text, None),
+    }
+}
+
+/// The first word, and what follows the space after it, if there is one.
+pub(crate) fn cut_word(text: &[u8]) -> (&[u8], Option<&[u8]>)
+    ensures { words text.now ≡ result.0.now ∷ words_after (option_copied result.1) }
+{
+    split_at_byte(b' ', text)
+}
+
+/// What follows the space after a first word of so many bytes, if there is one; `None` where the
+/// word doesn't end there.
+#[inline(always)]
+pub(crate) fn after_word(text: &[u8], len: usize) -> Option<Option<&[u8]>>
+    requires within { len ≤ length text.now }
+    requires word { Lacks 32 (take len text.now) }
+    ensures { IfSome result (λ rest.
+        words text.now ≡ take len text.now ∷ words_after (option_copied rest)) }
+{
+    if len == text.len() {
+        return Some(None);
+    }
+    if text[len] == b' ' {
+        Some(Some(&text[len + 1..]))
+    } else {
+        None
+    }
+}

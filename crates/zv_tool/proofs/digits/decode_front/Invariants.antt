@@ -1,5 +1,0 @@
-use Rattle.zv_tool.proofs.Decoding.{IsRead}
-use Rattle.zv_tool.proofs.digits.decode_front.Given as goal
-
-abbrev pub invariant-pairs : goal.invariant-pairs
-invariant-pairs l = IsRead l.i l.text l.place

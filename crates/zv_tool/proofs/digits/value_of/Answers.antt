@@ -1,6 +1,0 @@
-use Rattle.zv_tool.proofs.Common.{refl, arith}
-use Rattle.zv_tool.proofs.Decoding.{value_in, values}
-use Rattle.zv_tool.proofs.digits.value_of.Goals as goal
-
-pub returns : goal.returns
-returns c = value_in values 256 c.args.digit refl (omega arith)
