@@ -1,8 +1,8 @@
 -- Buckets choose alike wherever all before them do, so a bucket that is stuck is stuck in every table.
-use Rattle.std.proofs.Common.{◌≡◌, ℕ, zero, suc, ◌+◌, ◌<◌, ◌≤◌, ◌==◌, inl, inr, List, length, ap, sym, arith, refl, ◌∙◌, slice_index}
+use Rattle.std.proofs.Common.{◌≡◌, ℕ, zero, suc, ◌+◌, ◌<◌, ◌≤◌, ◌==◌, inl, inr, List, length, ap, sym, arith, refl, ◌∙◌, get_or}
 use Rattle.std.proofs.lemmas.List.Sums.{count_by-le-length}
 use Rattle.zv_hash.specs.Splitting.{bucket_of}
-use Rattle.zv_hash.specs.Placement.{bucket_at, size, displacement, slot_at, sent_to, IsBefore, IsEarlier, IsChoice, IsStuck, Chosen}
+use Rattle.zv_hash.specs.Placement.{bucket_at, size, displacement, slot_at, sent_to, Fits, IsBefore, IsCandidate, IsEarlier, IsChoice, IsStuck, Chosen}
 use Rattle.zv_hash.proofs.Choices.{same_fits}
 use Rattle.zv_hash.proofs.Slots.{bucket_below, member_size}
 
@@ -20,78 +20,60 @@ same_numbers a b c d h k = grind arith
 apart : (d e : ℕ × ℕ) → (IsEarlier d e → ⊥) → (IsEarlier e d → ⊥) → d ≡ e
 apart d e h k = let same = same_numbers d.0 d.1 e.0 e.1 h k in ap (λ x. (x, d.1)) same.0 ∙ ap (λ y. (e.0, y)) same.1
 
-module _ (hs : List ℕ) (ds es : List (ℕ × ℕ)) (P : ℕ → Type 0) (some : (f : ℕ) → P f → f < length hs) (one : (f : ℕ) → P f → IsChoice hs ds f)
-    (other : (f : ℕ) → P f → IsChoice hs es f) (before : (e f : ℕ) → P f → e < length hs → 0 < size hs e → IsBefore hs e f → P e) where
-  abbrev Alike : ℕ → Type 0
-  Alike f = displacement ds f ≡ displacement es f
-
-  -- where the buckets before one have the same displacements, its hashes meet the same slots
-  same_slots : (g : ℕ) → ((e : ℕ) → e < length hs → 0 < size hs e → IsBefore hs e g → Alike e) → (j : ℕ) → j < length hs → IsBefore hs (bucket_at hs j) g
-      → slot_at hs es j ≡ slot_at hs ds j
-  same_slots g alike j h b =
-      let within = bucket_below (length hs) (slice_index hs j) (omega arith) in
-      ap (λ d. sent_to hs d j) (sym (alike (bucket_at hs j) within (member_size hs (bucket_at hs j) j (record { within = h; bucket = refl })) b))
-
-  step : (f : ℕ) → P f → ((e : ℕ) → P e → IsBefore hs e f → Alike e) → Alike f
-  step f p alike =
-      let same = same_slots f (λ e h pos b. alike e (before e f p h pos b) b) in
-      let d = one f p in
-      let c = other f p in
-      apart (displacement ds f) (displacement es f)
-      (λ earlier. c.first (displacement ds f) d.candidate earlier (same_fits hs ds es f (displacement ds f) same d.fits))
-      (λ earlier. d.first (displacement es f) c.candidate earlier (same_fits hs es ds f (displacement es f) (λ j h b. sym (same j h b)) c.fits))
-
-  -- of one size, from the highest number on
-  of_size : (s : ℕ) → ((e : ℕ) → P e → s < size hs e → Alike e) → (i f : ℕ) → P f → size hs f ≡ s → length hs ≤ f + i → Alike f
-  of_size s larger zero f p at high = let within = some f p in absurd (omega arith)
-  of_size s larger (suc i) f p at high = step f p (λ e q b. elim b [
-    | inl more ↦ larger e q (omega arith)
-    | inr both ↦ of_size s larger i e q (omega arith) (omega arith)
-  ])
-
-  -- all sizes, from the largest on
-  of_sizes : (j f : ℕ) → P f → length hs < size hs f + j → Alike f
-  of_sizes zero f p large = absurd (omega (arith, large, count_by-le-length (λ h. bucket_of (length hs) h == f) hs))
-  of_sizes (suc j) f p large =
-      of_size (size hs f) (λ e q more. of_sizes j e q (omega arith)) (length hs) f p refl (omega arith)
-
-  pub all_alike : (f : ℕ) → P f → Alike f
-  all_alike f p = of_sizes (length hs + 1) f p (omega arith)
-
--- no table has choices up to a bucket that is stuck
-module _ (hs : List ℕ) (g : ℕ) (stuck : IsStuck hs g) (es : List (ℕ × ℕ))
-    (choices : (f : ℕ) → f < length hs → 0 < size hs f → IsBefore hs f g → IsChoice hs es f) where
+-- in two tables the buckets before g have choices
+module _ (hs : List ℕ) (g : ℕ) (ds es : List (ℕ × ℕ)) (one : (f : ℕ) → f < length hs → 0 < size hs f → IsBefore hs f g → IsChoice hs ds f)
+    (other : (f : ℕ) → f < length hs → 0 < size hs f → IsBefore hs f g → IsChoice hs es f) where
   record IsUp (f : ℕ) : Type 0 where
     within : f < length hs
     some : 0 < size hs f
     before : IsBefore hs f g
 
-  up_alike : (f : ℕ) → IsUp f → displacement es f ≡ displacement stuck.ds f
-  up_alike = all_alike hs es stuck.ds IsUp (λ f u. u.within) (λ f u. choices f u.within u.some u.before)
-      (λ f u. stuck.before f u.within u.some u.before)
-      (λ e f u h pos b. record { within = h; some = pos; before = transitive hs e f g b u.before })
+  abbrev Alike : ℕ → Type 0
+  Alike f = IsUp f → displacement es f ≡ displacement ds f
 
-  pub not_chosen : IsChoice hs es g → ⊥
-  not_chosen choice =
-      stuck.none (displacement es g) choice.candidate
-      (same_fits hs es stuck.ds g (displacement es g)
-      (λ j h b.
-      let within = bucket_below (length hs) (slice_index hs j) (omega arith) in
-      ap (λ d. sent_to hs d j) (sym (up_alike (bucket_at hs j) (record {
-        within = within;
-        some = member_size hs (bucket_at hs j) j (record { within = h; bucket = refl });
-        before = b;
-      }))))
-      choice.fits)
+  -- where the buckets before one have the same displacements, its hashes meet the same slots
+  same_slots : (f : ℕ) → ((e : ℕ) → IsBefore hs e f → IsBefore hs e g) → ((e : ℕ) → IsBefore hs e f → Alike e) → (j : ℕ) → j < length hs
+      → IsBefore hs (bucket_at hs j) f → slot_at hs es j ≡ slot_at hs ds j
+  same_slots f up alike j h b = ap (λ d. sent_to hs d j) (alike _ b (record {
+    within = bucket_below (length hs) (get_or hs j 0) (omega arith);
+    some = member_size hs _ j (record { within = h; bucket = refl });
+    before = up _ b;
+  }))
+
+  step : (f : ℕ) → ((e : ℕ) → IsBefore hs e f → Alike e) → Alike f
+  step f alike up =
+      let same = same_slots f (λ e b. transitive hs e f g b up.before) alike in
+      let d = one f up.within up.some up.before in
+      let c = other f up.within up.some up.before in
+      apart _ _ (λ earlier. d.first _ c.candidate earlier (same_fits hs es ds f _ (λ j h b. sym (same j h b)) c.fits))
+      (λ earlier. c.first _ d.candidate earlier (same_fits hs ds es f _ same d.fits))
+
+  -- of one size, from the highest number on
+  of_size : (s : ℕ) → ((e : ℕ) → s < size hs e → Alike e) → (i f : ℕ) → size hs f ≡ s → length hs ≤ f + i → Alike f
+  of_size s larger zero f at high up = absurd (omega arith)
+  of_size s larger (suc i) f at high up =
+      step f (λ e b. elim b [ inl more ↦ larger e (omega arith) | inr both ↦ of_size s larger i e (omega arith) (omega arith) ]) up
+
+  -- all sizes, from the largest on
+  all_alike : (j f : ℕ) → length hs < size hs f + j → Alike f
+  all_alike zero f large up = absurd (omega (arith, large, count_by-le-length (λ h. bucket_of (length hs) h == f) hs))
+  all_alike (suc j) f large up = of_size (size hs f) (λ e more. all_alike j e (omega arith)) (length hs) f refl (omega arith) up
+
+  -- and no displacement that fits g in one table is one too many in the other
+  pub not_chosen : ((d : ℕ × ℕ) → IsCandidate (length hs) d → Fits hs ds g d → ⊥) → IsChoice hs es g → ⊥
+  not_chosen none choice =
+      none _ choice.candidate (same_fits hs es ds g _
+      (λ j h b. sym (same_slots g (λ _ before. before) (λ e _. all_alike (length hs + 1) e (omega arith)) j h b)) choice.fits)
 
 -- hashes with a bucket that is stuck have no table
 pub chosen_not_stuck : (hs : List ℕ) (ds : List (ℕ × ℕ)) (g : ℕ) → Chosen hs ds → IsStuck hs g → ⊥
 chosen_not_stuck hs ds g chosen stuck =
-    not_chosen hs g stuck ds (λ f h pos b. chosen.choices f h pos) (chosen.choices g stuck.within stuck.some)
+    not_chosen hs g stuck.ds ds stuck.before (λ f h pos b. chosen.choices f h pos) stuck.none (chosen.choices g stuck.within stuck.some)
 
 later_not_stuck : (hs : List ℕ) (g h : ℕ) → IsStuck hs g → IsStuck hs h → IsBefore hs g h → ⊥
 later_not_stuck hs g h stuck later b =
-    not_chosen hs g stuck later.ds (λ f k pos c. later.before f k pos (transitive hs f g h c b)) (later.before g stuck.within stuck.some b)
+    not_chosen hs g stuck.ds later.ds stuck.before (λ f k pos c. later.before f k pos (transitive hs f g h c b)) stuck.none
+    (later.before g stuck.within stuck.some b)
 
 -- and one bucket alone is stuck
 pub one_stuck : (hs : List ℕ) (g h : ℕ) → IsStuck hs g → IsStuck hs h → g ≡ h
