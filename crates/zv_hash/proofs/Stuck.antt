@@ -1,10 +1,10 @@
 -- Buckets choose alike wherever all before them do, so a bucket that is stuck is stuck in every table.
-use Rattle.std.proofs.Common.{◌≡◌, ℕ, zero, suc, ◌+◌, ◌<◌, ◌≤◌, ◌==◌, inl, inr, List, length, ap, sym, arith, refl, ◌∙◌, get_or}
+use Rattle.std.proofs.Common.{◌≡◌, ℕ, zero, suc, ◌+◌, ◌<◌, ◌≤◌, ◌==◌, inl, inr, List, length, ap, sym, arith, refl, ◌∙◌}
 use Rattle.std.proofs.lemmas.List.Sums.{count_by-le-length}
 use Rattle.zv_hash.specs.Splitting.{bucket_of}
 use Rattle.zv_hash.specs.Placement.{bucket_at, size, displacement, slot_at, sent_to, Fits, IsBefore, IsCandidate, IsEarlier, IsChoice, IsStuck, Chosen}
 use Rattle.zv_hash.proofs.Choices.{same_fits}
-use Rattle.zv_hash.proofs.Slots.{bucket_below, member_size}
+use Rattle.zv_hash.proofs.Slots.{bucket_below, bucket_size}
 
 transitive : (hs : List ℕ) (e f g : ℕ) → IsBefore hs e f → IsBefore hs f g → IsBefore hs e g
 transitive hs e f g h k = grind arith
@@ -35,8 +35,8 @@ module _ (hs : List ℕ) (g : ℕ) (ds es : List (ℕ × ℕ)) (one : (f : ℕ) 
   same_slots : (f : ℕ) → ((e : ℕ) → IsBefore hs e f → IsBefore hs e g) → ((e : ℕ) → IsBefore hs e f → Alike e) → (j : ℕ) → j < length hs
       → IsBefore hs (bucket_at hs j) f → slot_at hs es j ≡ slot_at hs ds j
   same_slots f up alike j h b = ap (λ d. sent_to hs d j) (alike _ b (record {
-    within = bucket_below (length hs) (get_or hs j 0) (omega arith);
-    some = member_size hs _ j (record { within = h; bucket = refl });
+    within = bucket_below hs j h;
+    some = bucket_size hs j h;
     before = up _ b;
   }))
 
@@ -45,8 +45,8 @@ module _ (hs : List ℕ) (g : ℕ) (ds es : List (ℕ × ℕ)) (one : (f : ℕ) 
       let same = same_slots f (λ e b. transitive hs e f g b up.before) alike in
       let d = one f up.within up.some up.before in
       let c = other f up.within up.some up.before in
-      apart _ _ (λ earlier. d.first _ c.candidate earlier (same_fits hs es ds f _ (λ j h b. sym (same j h b)) c.fits))
-      (λ earlier. c.first _ d.candidate earlier (same_fits hs ds es f _ same d.fits))
+      apart _ _ (λ earlier. d.first _ c.candidate earlier (same_fits (λ j h b. sym (same j h b)) c.fits))
+      (λ earlier. c.first _ d.candidate earlier (same_fits same d.fits))
 
   -- of one size, from the highest number on
   of_size : (s : ℕ) → ((e : ℕ) → s < size hs e → Alike e) → (i f : ℕ) → size hs f ≡ s → length hs ≤ f + i → Alike f
@@ -62,7 +62,7 @@ module _ (hs : List ℕ) (g : ℕ) (ds es : List (ℕ × ℕ)) (one : (f : ℕ) 
   -- and no displacement that fits g in one table is one too many in the other
   pub not_chosen : ((d : ℕ × ℕ) → IsCandidate (length hs) d → Fits hs ds g d → ⊥) → IsChoice hs es g → ⊥
   not_chosen none choice =
-      none _ choice.candidate (same_fits hs es ds g _
+      none _ choice.candidate (same_fits
       (λ j h b. sym (same_slots g (λ _ before. before) (λ e _. all_alike (length hs + 1) e (omega arith)) j h b)) choice.fits)
 
 -- hashes with a bucket that is stuck have no table

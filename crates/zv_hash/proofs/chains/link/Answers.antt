@@ -13,7 +13,7 @@ loop-place-preserved c =
       within = omega arith;
       linked = subst (λ b. AreChains hs p (set c.loop-place.firsts b p) (set c.loop-place.nexts p (get_or c.loop-place.firsts b 0)))
           (sym c.bucket_of_hash-bucket.ensures.bucket)
-          (one_link hs c.loop-place.firsts c.loop-place.nexts p (omega arith) (bucket_below _ (get_or hs p 0) (omega arith))
+          (one_link hs c.loop-place.firsts c.loop-place.nexts p (omega arith) (bucket_below hs p (omega arith))
           (subst (λ k. AreChains hs k c.loop-place.firsts c.loop-place.nexts) next c.loop-place.invariant.linked));
     }
 

@@ -18,7 +18,7 @@ loop-wanted-init c =
 pub loop-wanted-preserved : goal.loop-wanted-preserved
 loop-wanted-preserved c =
     let hs = c.args.chains.hashes.now in
-    size_passed hs c.place_all_of.new.displacements c.place_all_of.new.places c.loop-wanted.wanted c.largest_up_to-wanted-in-loop-wanted.result (omega arith)
+    size_passed (omega arith)
     (λ g h less.
     let is = c.requires.sizes g h in
     let most = c.largest_up_to-wanted-in-loop-wanted.ensures.largest g (omega (arith, c.requires.len)) (omega arith) in
@@ -30,4 +30,4 @@ returns c =
     let hs = c.args.chains.hashes.now in
     let none : c.loop-wanted.wanted ≡ 0 = omega arith in
     let filled = subst (λ k. Filled hs c.loop-wanted.displacements c.loop-wanted.places k (length hs)) none c.loop-wanted.invariant in
-    (all_chosen hs c.loop-wanted.displacements c.loop-wanted.places filled, all_placed hs c.loop-wanted.displacements c.loop-wanted.places filled)
+    (all_chosen filled, all_placed filled)

@@ -12,8 +12,7 @@ loop-bucket-preserved c =
     let is = c.requires.sizes bucket (omega (arith, c.loop-bucket.invariant.within)) in
     record {
       within = omega (arith, c.loop-bucket.invariant.within);
-      filled = turn_passed hs c.loop-bucket.displacements c.loop-bucket.places c.args.wanted bucket
-          (λ same. absurd (omega (arith, is, c.if-sizes-bucket.false)))
+      filled = turn_passed (λ same. absurd (omega (arith, is, c.if-sizes-bucket.false)))
           (subst (λ k. Filled hs c.loop-bucket.displacements c.loop-bucket.places c.args.wanted k) next c.loop-bucket.invariant.filled);
     }
 

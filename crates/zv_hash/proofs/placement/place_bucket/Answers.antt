@@ -4,7 +4,7 @@ use Rattle.zv_hash.proofs.placement.place_bucket.Goals as goal
 
 pub first_fit-requires-clause-some : goal.first_fit-requires-clause-some
 first_fit-requires-clause-some c =
-    first_member c.args.chains.hashes.now c.args.chains.firsts.now c.args.chains.nexts.now c.args.bucket c.args.chains.linked c.requires.bucket c.requires.some
+    first_member c.args.bucket c.args.chains.linked c.requires.bucket c.requires.some
 
 pub returns-in_default : goal.returns-in_default
 returns-in_default c =
