@@ -12,9 +12,9 @@ use Rattle.zv_hash.proofs.Slots.{bucket_below, sent_below, bucket_size}
 use Rattle.zv_hash.proofs.Choices.{done_before, fits_free, free_fits, same_fits, same_choice, SameSlots}
 
 -- an empty table
-pub none_filled : (hs : List ℕ) (ds : List (ℕ × ℕ)) (places : List ℕ) (s : ℕ) → ds ≡ replicate (length hs) (0, 0) → places ≡ replicate (length hs) (length hs)
+pub none_filled : {hs : List ℕ} {ds : List (ℕ × ℕ)} {places : List ℕ} {s : ℕ} → ds ≡ replicate (length hs) (0, 0) → places ≡ replicate (length hs) (length hs)
     → ((g : ℕ) → g < length hs → size hs g ≤ s) → Filled hs ds places s (length hs)
-none_filled hs ds places s zeros ends most = rw (zeros, ends) (record {
+none_filled {hs} zeros ends most = rw (zeros, ends) (record {
   ds_len = length-replicate (length hs) (0, 0);
   len = length-replicate (length hs) (length hs);
   choices = λ f h done. let small = most f h in absurd (grind arith);
@@ -58,30 +58,27 @@ stays_done hs f g done = grind arith
 done_other : (hs : List ℕ) (f g : ℕ) → IsDone hs (size hs g) (g + 1) f → f ≡ g → ⊥
 done_other hs f g done same = grind arith
 
-before_done : (hs : List ℕ) (e f g : ℕ) → IsBefore hs e f → IsDone hs (size hs g) (g + 1) f → IsDone hs (size hs g) (g + 1) e
-before_done hs e f g before done = grind arith
+placed_before : (hs : List ℕ) (e f g : ℕ) → IsBefore hs e f → IsDone hs (size hs g) (g + 1) f → IsDone hs (size hs g) (g + 1) e
+placed_before hs e f g before done = grind arith
 
-module _ (hs : List ℕ) (ds : List (ℕ × ℕ)) (old new : List ℕ) (g : ℕ) (d : ℕ × ℕ) (filled : Filled hs ds old (size hs g) (g + 1)) (within : g < length hs) where
+module _ {hs : List ℕ} {ds : List (ℕ × ℕ)} {old : List ℕ} {g : ℕ} (filled : Filled hs ds old (size hs g) (g + 1)) (within : g < length hs) where
   -- the hashes of the buckets that were placed keep their slots, and those of g have theirs
-  kept_slot : (j : ℕ) → IsDone hs (size hs g) (g + 1) (bucket_at hs j) → slot_at hs (set ds g d) j ≡ slot_at hs ds j
-  kept_slot j done = ap (λ e. sent_to hs e j) (get_or-set_other ds g (bucket_at hs j) d (0, 0) (done_other hs _ g done))
+  kept_slot : (d : ℕ × ℕ) (j : ℕ) → IsDone hs (size hs g) (g + 1) (bucket_at hs j) → slot_at hs (set ds g d) j ≡ slot_at hs ds j
+  kept_slot d j done = ap (λ e. sent_to hs e j) (get_or-set_other ds g (bucket_at hs j) d (0, 0) (done_other hs _ g done))
 
-  own_slot : (j : ℕ) → bucket_at hs j ≡ g → slot_at hs (set ds g d) j ≡ sent_to hs d j
-  own_slot j at = let len = filled.ds_len in ap (λ e. sent_to hs e j) (rw at (get_or-set_same ds g d (0, 0) (omega arith)))
+  own_slot : (d : ℕ × ℕ) (j : ℕ) → bucket_at hs j ≡ g → slot_at hs (set ds g d) j ≡ sent_to hs d j
+  own_slot d j at = let len = filled.ds_len in ap (λ e. sent_to hs e j) (rw at (get_or-set_same ds g d (0, 0) (omega arith)))
 
-  same_slots : (f : ℕ) → IsDone hs (size hs g) (g + 1) f → SameSlots hs ds (set ds g d) f
-  same_slots f done j h before = kept_slot j (before_done hs _ f g before done)
+  g_slots : (d : ℕ × ℕ) → SameSlots hs ds (set ds g d) g
+  g_slots d j h before = kept_slot d j (done_before hs _ g before)
 
-  g_slots : SameSlots hs ds (set ds g d) g
-  g_slots j h before = kept_slot j (done_before hs _ g before)
-
-  pub one_filled : IsCandidate (length hs) d → FitsFree hs old g d
+  pub one_filled : {new : List ℕ} {d : ℕ × ℕ} → IsCandidate (length hs) d → FitsFree hs old g d
       → ((e : ℕ × ℕ) → IsCandidate (length hs) e → IsEarlier e d → FitsFree hs old g e → ⊥)
       → length new ≡ length old
       → ((i : ℕ) → IsMember hs g i → get_or new (sent_to hs d i) 0 ≡ i)
       → ((t : ℕ) → (IsMember hs g (get_or new t 0) × (sent_to hs d (get_or new t 0) ≡ t)) ⊎ (get_or new t 0 ≡ get_or old t 0))
       → Filled hs (set ds g d) new (size hs g) g
-  one_filled candidate fits first len held either =
+  one_filled {new} {d} candidate fits first len held either =
       let ds_len = filled.ds_len in
       let old_len = filled.len in
       let is : displacement (set ds g d) g ≡ d = get_or-set_same ds g d (0, 0) (omega arith) in
@@ -91,28 +88,28 @@ module _ (hs : List ℕ) (ds : List (ℕ × ℕ)) (old new : List ℕ) (g : ℕ)
         choices = λ f h done. elim (last_or_before hs f g done) [
           | inl same ↦ rw same (record {
             candidate = rw is candidate;
-            fits = rw is (same_fits g_slots (free_fits filled fits));
-            first = λ e c earlier now. first e c (rw is at earlier) (fits_free filled (same_fits (λ j h b. sym (g_slots j h b)) now));
+            fits = rw is (same_fits (g_slots d) (free_fits filled fits));
+            first = λ e c earlier now. first e c (rw is at earlier) (fits_free filled (same_fits (λ j h b. sym (g_slots d j h b)) now));
           })
-          | inr before ↦ same_choice (get_or-set_other ds g f d (0, 0) (done_other hs f g before)) (same_slots f before) (filled.choices f h before)
+          | inr before ↦ same_choice (get_or-set_other ds g f d (0, 0) (done_other hs f g before)) (λ j h b. kept_slot d j (placed_before hs _ f g b before)) (filled.choices f h before)
         ];
         empty = λ f h undone.
             get_or-set_other ds g f d (0, 0) (λ same. undone (inr (ap (size hs) same, omega arith)))
             ∙ filled.empty f h (λ done. undone (stays_done hs f g done));
         held = λ i h done. elim (last_or_before hs _ g done) [
-          | inl same ↦ ap (λ s. get_or new s 0) (own_slot i same) ∙ held i (record { within = h; bucket = same })
+          | inl same ↦ ap (λ s. get_or new s 0) (own_slot d i same) ∙ held i (record { within = h; bucket = same })
           | inr before ↦
               let there = filled.held i h before in
-              ap (λ s. get_or new s 0) (kept_slot i before) ∙ elim (either (slot_at hs ds i)) [
+              ap (λ s. get_or new s 0) (kept_slot d i before) ∙ elim (either (slot_at hs ds i)) [
                 | inl taken ↦ let free = rw taken.1 at (fits.free _ taken.0) in absurd (omega arith)
                 | inr kept ↦ kept ∙ there
               ]
         ];
         free = λ t h placed. elim (either t) [
-          | inl taken ↦ let at = taken.0.bucket in (inr (ap (size hs) at, omega arith), own_slot _ at ∙ taken.1)
+          | inl taken ↦ let at = taken.0.bucket in (inr (ap (size hs) at, omega arith), own_slot d _ at ∙ taken.1)
           | inr kept ↦ rw kept (
               let was = filled.free t h (rw kept at placed) in
-              (stays_done hs _ g was.0, kept_slot _ was.0 ∙ was.1))
+              (stays_done hs _ g was.0, kept_slot d _ was.0 ∙ was.1))
         ];
       }
 

@@ -7,8 +7,8 @@ use Rattle.zv_hash.specs.Placement.{bucket_at}
 use Rattle.zv_hash.specs.Chains.{IsNext, AreChains}
 
 -- none yet
-pub no_links : (hs firsts nexts : List ℕ) → firsts ≡ replicate (length hs) (length hs) → length nexts ≡ length hs → AreChains hs (length hs) firsts nexts
-no_links hs firsts nexts ends room = rw ends (record {
+pub no_links : {hs firsts nexts : List ℕ} → firsts ≡ replicate (length hs) (length hs) → length nexts ≡ length hs → AreChains hs (length hs) firsts nexts
+no_links {hs} ends room = rw ends (record {
   first_len = length-replicate (length hs) (length hs);
   next_len = room;
   first = λ g h. rw (get_or-replicate (length hs) g (length hs) 0 h) (record {
@@ -31,9 +31,9 @@ earlier hs g p q other next = record {
 }
 
 -- one place more
-pub one_link : (hs firsts nexts : List ℕ) (p : ℕ) → p < length hs → bucket_at hs p < length hs → AreChains hs (p + 1) firsts nexts
+pub one_link : {hs firsts nexts : List ℕ} {p : ℕ} → p < length hs → bucket_at hs p < length hs → AreChains hs (p + 1) firsts nexts
     → AreChains hs p (set firsts (bucket_at hs p) p) (set nexts p (get_or firsts (bucket_at hs p) 0))
-one_link hs firsts nexts p within bucket old =
+one_link {hs} {firsts} {nexts} {p} within bucket old =
     let first_len = old.first_len in
     let next_len = old.next_len in
     record {

@@ -18,6 +18,7 @@ impl Row {
     ghost use Rattle.zv_hash.specs.Rowed.{IsRowOf, slot_on};
 
     /// The row of a hash with the parts `f`.
+    #[tactic(auto, unfolding(crate::specs::Splitting::slot_of))]
     pub fn new(slots: u32, first: u32, f: (u32, u32)) -> Self
         requires { 1 ≤ slots }
         ensures { IsRowOf result slots first f }
@@ -32,6 +33,7 @@ impl Row {
 
     /// The slot. There is a division only where the sum is 2^32 or more.
     #[inline(always)]
+    #[tactic(auto, using(crate::proofs::Remainders::by_remainder, crate::proofs::Remainders::by_more))]
     pub fn slot(self, second: u32) -> u32
         requires { second ≤ self.slots }
         ensures { result ≡ slot_on self second }

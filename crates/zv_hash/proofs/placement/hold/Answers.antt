@@ -1,6 +1,6 @@
-use Rattle.std.proofs.Common.{◌≡◌, ◌⊎◌, inl, inr, get_or, set, length-set, get_or-set_same, get_or-set_other, ap, sym, subst, ◌∙◌, arith}
+use Rattle.std.proofs.Common.{◌≡◌, inl, inr, get_or, set, length-set, get_or-set_same, get_or-set_other, sym, ◌∙◌, arith}
 use Rattle.std.proofs.lemmas.Bool.{cases_eq}
-use Rattle.zv_hash.specs.Placement.{IsMember, sent_to}
+use Rattle.zv_hash.specs.Placement.{sent_to}
 use Rattle.zv_hash.proofs.Walk.{below_next}
 use Rattle.zv_hash.proofs.placement.hold.Goals as goal
 
@@ -27,13 +27,9 @@ loop-place-preserved c =
           (λ i m less. get_or-set_other places slot (sent_to hs d i) p 0
           (λ e. let alike = c.requires.fits.distinct i p m (record { within = within; bucket = at }) (e ∙ is) in omega arith)
           ∙ old.held i m less)
-          (subst (λ s. get_or (set places slot p) s 0 ≡ p) is same);
+          (rw (← is) same);
       others = λ t. elim (cases_eq t slot) [
-        | inl there ↦
-            let now : get_or (set places slot p) t 0 ≡ p = ap (λ s. get_or (set places slot p) s 0) there ∙ same in
-            inl (subst (λ k. IsMember hs g k × (sent_to hs d k ≡ t)) (sym now) (record { within = within; bucket = at }, sym is ∙ sym there))
-        | inr apart ↦
-            subst (λ k. (IsMember hs g k × (sent_to hs d k ≡ t)) ⊎ (k ≡ get_or c.args.places.now t 0))
-            (sym (get_or-set_other places slot t p 0 apart)) (old.others t)
+        | inl there ↦ rw (there, same) (inl (record { within = within; bucket = at }, sym is))
+        | inr apart ↦ rw (get_or-set_other places slot t p 0 apart) (old.others t)
       ];
     }

@@ -3,16 +3,12 @@ use Rattle.zv_hash.proofs.Fillings.{one_filled, stuck_there}
 use Rattle.zv_hash.proofs.placement.place_bucket.Goals as goal
 
 pub first_fit-requires-clause-some : goal.first_fit-requires-clause-some
-first_fit-requires-clause-some c =
-    first_member c.args.bucket c.args.chains.linked c.requires.bucket c.requires.some
+first_fit-requires-clause-some c = first_member c.args.bucket c.args.chains.linked c.requires.bucket c.requires.some
 
 pub returns-in_default : goal.returns-in_default
-returns-in_default c =
-    let places = c.args.places.now in
-    stuck_there c.args.chains.hashes.now c.args.displacements.now places places c.args.bucket (0, 0) c.requires.filled c.requires.bucket c.requires.some
-    (rw c.in_default.is at c.first_fit.ensures)
+returns-in_default c = stuck_there c.requires.filled c.requires.bucket c.requires.some (rw c.in_default.is at c.first_fit.ensures)
 
 pub returns : goal.returns
 returns c =
-    one_filled c.args.chains.hashes.now c.args.displacements.now c.args.places.now c.hold.new.places c.args.bucket c.in-Some.d
-    c.requires.filled c.requires.bucket c.in-Some.ensures.0 c.in-Some.ensures.1 c.in-Some.ensures.2 c.hold.ensures.len c.hold.ensures.held c.hold.ensures.others
+    one_filled c.requires.filled c.requires.bucket c.in-Some.ensures.0 c.in-Some.ensures.1 c.in-Some.ensures.2 c.hold.ensures.len
+    c.hold.ensures.held c.hold.ensures.others

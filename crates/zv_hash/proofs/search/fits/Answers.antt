@@ -1,4 +1,4 @@
-use Rattle.std.proofs.Common.{◌≡◌, ℕ, ◌<◌, ◌≤◌, length, get_or, subst, sym, ◌∙◌, refl, arith}
+use Rattle.std.proofs.Common.{◌≡◌, ℕ, ◌<◌, ◌≤◌, length, get_or, sym, ◌∙◌, refl, arith}
 use Rattle.zv_hash.specs.Placement.{IsMember, sent_to}
 use Rattle.zv_hash.proofs.Walk.{below_next}
 use Rattle.zv_hash.proofs.search.fits.Goals as goal
@@ -23,5 +23,5 @@ loop-place-preserved c =
           (λ i m less. below_next hs g p q (λ j. to i ≡ to j → i ≡ j) at next (old.distinct i m less) (λ e. absurd (none i m less (e ∙ sym is))))
           (below_next hs g p q (λ j. to p ≡ to j → p ≡ j) at next (λ j n less e. absurd (none j n less (sym e ∙ sym is))) (λ e. refl));
       free = below_next hs g p q (λ i. length hs ≤ get_or c.args.places.now (to i) 0) at next old.free
-          (subst (λ s. length hs ≤ get_or c.args.places.now s 0) is c.if-places-slot.false);
+          (rw (← is) c.if-places-slot.false);
     }
