@@ -1,9 +1,6 @@
 -- Choices while a table is filled: one more displacement leaves those before it, and free slots are those that no bucket before holds.
-use Rattle.std.proofs.Common.{◌≡◌, ℕ, ◌+◌, ◌<◌, inl, inr, List, length, get_or, sym, ◌∙◌, arith}
-use Rattle.std.proofs.lemmas.Bool.{cases_lt}
-use Rattle.zv_hash.specs.Placement.{bucket_at, size, displacement, sent_to, slot_at, IsBefore, Fits, IsChoice}
-use Rattle.zv_hash.specs.Chains.{FitsFree}
-use Rattle.zv_hash.specs.Filling.{IsDone, Filled}
+use Rattle.zv_hash.proofs.Common.{◌≡◌, ℕ, ◌+◌, ◌<◌, inl, inr, List, length, get_or, sym, ◌∙◌, arith, cases_lt, bucket_at, size, displacement, sent_to}
+use Rattle.zv_hash.proofs.Common.{slot_at, IsBefore, Fits, IsChoice, FitsFree, IsDone, Filled}
 use Rattle.zv_hash.proofs.Slots.{sent_below}
 
 -- the buckets before g are those that are placed when it is its turn

@@ -1,8 +1,8 @@
 -- Tests that compute what the definitions say of a list of hashes, for worked examples.
-use Rattle.std.proofs.Common.{◌≡◌, ℕ, zero, suc, ◌+◌, ◌<◌, ◌==◌, ◌⊎◌, Bool, true, false, not, ◌&&◌, ◌||◌, cond, max, nat_lt, List, length, refl, ap, ◌∙◌}
+use Rattle.zv_hash.proofs.Common.{◌≡◌, ℕ, zero, suc, ◌+◌, ◌<◌, ◌==◌, ◌⊎◌, Bool, true, false, not, ◌&&◌, ◌||◌, cond, max, nat_lt, List, length, refl, ap}
+use Rattle.zv_hash.proofs.Common.{◌∙◌, IsBefore, IsCandidate, bucket_at, size, displacement, sent_to, slot_at, Fits, IsChoice, IsStuck, Chosen}
 use Rattle.std.specs.Bool.{Decides}
 use Rattle.std.proofs.lemmas.Bool.Decides.{Decides-and, Decides-below_and, Decides-eqb, Decides-like, Decides-ltb, Decides-not, Decides-or, not_from_Decides}
-use Rattle.zv_hash.specs.Placement.{IsBefore, IsCandidate, bucket_at, size, displacement, sent_to, slot_at, Fits, IsChoice, IsStuck, Chosen}
 
 -- a fact with a test of it
 record Test (P : Type 0) : Type 0 where

@@ -1,12 +1,8 @@
 -- How a table is filled, from the first bucket to the last.
-use Rattle.std.proofs.Common.{◌≡◌, ℕ, ◌+◌, ◌<◌, ◌≤◌, ◌==◌, ◌&&◌, ◌||◌, ◌⊎◌, inl, inr, cond, Some, None, List, length, get_or, set, replicate}
-use Rattle.std.proofs.Common.{ap, sym, ◌∙◌, arith, length-set, get_or-set_same, get_or-set_other, ◌↔◌}
+use Rattle.zv_hash.proofs.Common.{◌≡◌, ℕ, ◌+◌, ◌<◌, ◌≤◌, ◌==◌, ◌&&◌, ◌||◌, ◌⊎◌, inl, inr, cond, Some, None, List, length, get_or, set, replicate, ap, sym}
+use Rattle.zv_hash.proofs.Common.{◌∙◌, arith, length-set, get_or-set_same, get_or-set_other, ◌↔◌, get_or-replicate, length-replicate, IsMember, bucket_at}
+use Rattle.zv_hash.proofs.Common.{size, displacement, sent_to, slot_at, IsBefore, IsCandidate, IsEarlier, IsStuck, Chosen, Placed, FitsFree, IsDone, Filled}
 use Rattle.std.proofs.lemmas.Bool.Decides.{nat_tests}
-use Rattle.std.proofs.lemmas.List.{get_or-replicate, length-replicate}
-use Rattle.zv_hash.specs.Placement.{IsMember, bucket_at, size, displacement, sent_to, slot_at, IsBefore, IsCandidate, IsEarlier, IsStuck, Chosen}
-use Rattle.zv_hash.specs.Placement.{Placed}
-use Rattle.zv_hash.specs.Chains.{FitsFree}
-use Rattle.zv_hash.specs.Filling.{IsDone, Filled}
 use Rattle.zv_hash.proofs.Permutations.{onto}
 use Rattle.zv_hash.proofs.Slots.{bucket_below, sent_below, bucket_size}
 use Rattle.zv_hash.proofs.Choices.{done_before, fits_free, free_fits, same_fits, same_choice, SameSlots}

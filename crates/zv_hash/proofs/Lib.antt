@@ -1,3 +1,4 @@
+mod Common
 mod Permutations
 mod Remainders
 mod Slots

@@ -1,10 +1,6 @@
 -- Chains that are made from the last place on.
-use Rattle.std.proofs.Common.{◌≡◌, ℕ, ◌+◌, ◌<◌, inl, inr, List, length, get_or, set, replicate, refl, subst, sym, ◌∙◌, arith, length-set, get_or-set_same}
-use Rattle.std.proofs.Common.{get_or-set_other}
-use Rattle.std.proofs.lemmas.Bool.{cases_eq}
-use Rattle.std.proofs.lemmas.List.{get_or-replicate, length-replicate}
-use Rattle.zv_hash.specs.Placement.{bucket_at}
-use Rattle.zv_hash.specs.Chains.{IsNext, AreChains}
+use Rattle.zv_hash.proofs.Common.{◌≡◌, ℕ, ◌+◌, ◌<◌, inl, inr, List, length, get_or, set, replicate, refl, subst, sym, ◌∙◌, arith, length-set}
+use Rattle.zv_hash.proofs.Common.{get_or-set_same, get_or-set_other, cases_eq, get_or-replicate, length-replicate, bucket_at, IsNext, AreChains}
 
 -- none yet
 pub no_links : {hs firsts nexts : List ℕ} → firsts ≡ replicate (length hs) (length hs) → length nexts ≡ length hs → AreChains hs (length hs) firsts nexts

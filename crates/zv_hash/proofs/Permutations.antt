@@ -1,18 +1,15 @@
 -- Different numbers below their count: each number below it is one of them, and they are the numbers from 0 on, in another order.
-use Rattle.std.proofs.Common.{◌≡◌, ℕ, zero, suc, ◌<◌, inl, inr, List, [], ◌∷◌, ◌++◌, length, map, get_or, arith, sym, ◌∙◌, nat_eq, length-append, add-one}
-use Rattle.std.proofs.Common.{append-nil, subst}
+use Rattle.zv_hash.proofs.Common.{◌≡◌, ℕ, zero, suc, ◌<◌, inl, inr, List, [], ◌∷◌, ◌++◌, length, map, get_or, arith, sym, ◌∙◌, nat_eq, length-append}
+use Rattle.zv_hash.proofs.Common.{add-one, append-nil, subst, cases_Bool, eqb-true, ne_eqb, get_or_default, nil_from_length, map-id, Placed}
 use Rattle.std.specs.List.{Contains, list_any, range_with_len, remove}
 use Rattle.std.specs.Prelude.{IsPermutation}
-use Rattle.std.proofs.lemmas.Bool.{cases_Bool, eqb-true, ne_eqb}
 use Rattle.std.proofs.lemmas.Cmp.{nat_eq_equiv}
-use Rattle.std.proofs.lemmas.List.{get_or_default, nil_from_length, map-id}
 use Rattle.std.proofs.lemmas.List.Elements.{All-contains, All-push, Contains-append_cases}
 use Rattle.std.proofs.lemmas.List.FromFn.{length-range_with_len, get_or-range_with_len, map-range_with_len_more, length-map-range_with_len, get_or-map-range_with_len}
 use Rattle.std.proofs.lemmas.List.Sorted.{Contains-permutation, IsPermutation-more, IsPermutation-refl, IsPermutation-sym, length_permutation}
 use Rattle.std.proofs.lemmas.Map.Keys.{IsDistinct-from_apart, IsDistinct-push}
 use Rattle.std.proofs.lemmas.Map.Steps.{length-le_from_distinct_below}
 use Rattle.std.proofs.lemmas.Map.Views.{Contains-from_any}
-use Rattle.zv_hash.specs.Placement.{Placed}
 
 -- a function from the numbers below n to themselves that takes none twice takes each: one that it did not take would be too many
 pub onto : (n : ℕ) (f : ℕ → ℕ) → ((k : ℕ) → k < n → f k < n) → ((i j : ℕ) → i < j → j < n → f i ≡ f j → ⊥)

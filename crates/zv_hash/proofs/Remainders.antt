@@ -1,5 +1,5 @@
 -- A sum modulo m, by the remainder of its first number.
-use Rattle.std.proofs.Common.{◌≡◌, ℕ, ◌+◌, ◌-◌, ◌%◌, ◌^◌, ◌<◌, ◌≤◌, sym, ◌∙◌, arith}
+use Rattle.zv_hash.proofs.Common.{◌≡◌, ℕ, ◌+◌, ◌-◌, ◌%◌, ◌^◌, ◌<◌, ◌≤◌, sym, ◌∙◌, arith}
 use Rattle.std.proofs.Math.Nat.{mod-add-mod, mod-eq_of_lt, mod-eq-sub-mod}
 
 pub by_remainder : (b d m : ℕ) → b + d < 2 ^ 32 → b % m + d < m → (b + d) % 2 ^ 32 % m ≡ b % m + d

@@ -1,13 +1,10 @@
 -- Buckets and slots are below the number of hashes, and a bucket with a member has a size.
-use Rattle.std.proofs.Common.{ℕ, ◌+◌, ◌*◌, ◌/◌, ◌%◌, ◌^◌, ◌<◌, ◌≤◌, ◌==◌, cond, List, length, get_or, arith, inl, refl}
-use Rattle.std.proofs.Common.{inr}
+use Rattle.zv_hash.proofs.Common.{ℕ, ◌+◌, ◌*◌, ◌/◌, ◌%◌, ◌^◌, ◌<◌, ◌≤◌, ◌==◌, cond, List, length, get_or, arith, inl, refl, inr, cases_lt, eq-eqb, ne_eqb}
+use Rattle.zv_hash.proofs.Common.{AreChains, bucket_at, size, sent_to}
 use Rattle.std.proofs.lemmas.List.Elements.{All-from_get_or}
 use Rattle.std.proofs.lemmas.List.Sums.{count_by-le-length, get_or-le-sum_by, sum_by-le}
 use Rattle.std.proofs.lemmas.Nat.{mod_below}
-use Rattle.std.proofs.lemmas.Bool.{cases_lt, eq-eqb, ne_eqb}
 use Rattle.zv_hash.specs.Splitting.{bucket_of, slot_of}
-use Rattle.zv_hash.specs.Chains.{AreChains}
-use Rattle.zv_hash.specs.Placement.{bucket_at, size, sent_to}
 
 pub slot_below : (m : ℕ) (d f : ℕ × ℕ) → 0 < m → slot_of m d f < m
 unfolding slot_of

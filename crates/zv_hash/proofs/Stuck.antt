@@ -1,6 +1,6 @@
 -- Buckets choose alike wherever all before them do, so a bucket that is stuck is stuck in every table.
-use Rattle.std.proofs.Common.{◌≡◌, ℕ, zero, suc, ◌+◌, ◌<◌, ◌≤◌, inl, inr, List, length, ap, sym, arith, refl, ◌∙◌}
-use Rattle.zv_hash.specs.Placement.{bucket_at, size, displacement, slot_at, sent_to, Fits, IsBefore, IsCandidate, IsEarlier, IsChoice, IsStuck, Chosen}
+use Rattle.zv_hash.proofs.Common.{◌≡◌, ℕ, zero, suc, ◌+◌, ◌<◌, ◌≤◌, inl, inr, List, length, ap, sym, arith, refl, ◌∙◌, bucket_at, size, displacement}
+use Rattle.zv_hash.proofs.Common.{slot_at, sent_to, Fits, IsBefore, IsCandidate, IsEarlier, IsChoice, IsStuck, Chosen}
 use Rattle.zv_hash.proofs.Choices.{same_fits}
 use Rattle.zv_hash.proofs.Slots.{bucket_below, bucket_size, size_most}
 

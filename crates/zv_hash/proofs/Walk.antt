@@ -1,8 +1,5 @@
 -- Walking along a bucket's places.
-use Rattle.std.proofs.Common.{◌≡◌, ℕ, ◌+◌, ◌<◌, inl, inr, List, subst, sym, ◌∙◌, arith}
-use Rattle.std.proofs.lemmas.Bool.{cases_order}
-use Rattle.zv_hash.specs.Placement.{IsMember, bucket_at}
-use Rattle.zv_hash.specs.Chains.{IsNext}
+use Rattle.zv_hash.proofs.Common.{◌≡◌, ℕ, ◌+◌, ◌<◌, inl, inr, List, subst, sym, ◌∙◌, arith, cases_order, IsMember, bucket_at, IsNext}
 
 -- what holds of the members before one, and of it, holds of those before the next
 pub below_next : (hs : List ℕ) (g p q : ℕ) (P : ℕ → Type 0) → bucket_at hs p ≡ g → IsNext hs (bucket_at hs p) (p + 1) q

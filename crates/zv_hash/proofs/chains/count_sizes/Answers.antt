@@ -1,7 +1,6 @@
-use Rattle.std.proofs.Common.{◌==◌, length, arith}
+use Rattle.zv_hash.proofs.Common.{◌==◌, length, arith, bucket_of}
 use Rattle.std.proofs.lemmas.Grind.{common_steps}
 use Rattle.std.proofs.lemmas.List.Sums.{count_by_more_no, count_by_more_yes}
-use Rattle.zv_hash.specs.Splitting.{bucket_of}
 use Rattle.zv_hash.proofs.chains.count_sizes.Goals as goal
 
 pub loop-hash-preserved : goal.loop-hash-preserved

@@ -1,4 +1,4 @@
-use Rattle.std.proofs.Common.{◌≡◌, ◌+◌, ◌-◌, arith}
+use Rattle.zv_hash.proofs.Common.{◌≡◌, ◌+◌, ◌-◌, arith}
 use Rattle.zv_hash.proofs.Links.{no_links, one_link}
 use Rattle.zv_hash.proofs.Slots.{bucket_below}
 use Rattle.zv_hash.proofs.chains.link.Goals as goal

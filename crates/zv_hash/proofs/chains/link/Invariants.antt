@@ -1,5 +1,4 @@
-use Rattle.std.proofs.Common.{◌≤◌, length}
-use Rattle.zv_hash.specs.Chains.{AreChains}
+use Rattle.zv_hash.proofs.Common.{◌≤◌, length, AreChains}
 use Rattle.zv_hash.proofs.chains.link.Given as goal
 
 abbrev pub invariant-loop-place : goal.invariant-loop-place

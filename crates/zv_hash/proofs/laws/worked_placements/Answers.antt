@@ -1,4 +1,4 @@
-use Rattle.std.proofs.Common.{[], refl}
+use Rattle.zv_hash.proofs.Common.{[], refl}
 use Rattle.zv_xxhash.specs.Digest.{xxh64}
 use Rattle.zv_hash.specs.Splitting.{bucket_of, slot_of}
 use Rattle.zv_hash.proofs.Decide.{chosen_tells, stuck_tells}

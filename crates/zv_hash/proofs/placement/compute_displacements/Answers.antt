@@ -1,4 +1,4 @@
-use Rattle.std.proofs.Common.{◌≡◌, arith, length}
+use Rattle.zv_hash.proofs.Common.{◌≡◌, arith, length}
 use Rattle.std.proofs.Math.Seq.{take-append_seam}
 use Rattle.zv_hash.proofs.Permutations.{placed_permutation}
 use Rattle.zv_hash.proofs.Stuck.{chosen_not_stuck}

@@ -1,6 +1,4 @@
-use Rattle.std.proofs.Common.{◌≡◌, inl, inr, get_or, set, length-set, get_or-set_same, get_or-set_other, sym, ◌∙◌, arith}
-use Rattle.std.proofs.lemmas.Bool.{cases_eq}
-use Rattle.zv_hash.specs.Placement.{sent_to}
+use Rattle.zv_hash.proofs.Common.{◌≡◌, inl, inr, get_or, set, length-set, get_or-set_same, get_or-set_other, sym, ◌∙◌, arith, cases_eq, sent_to}
 use Rattle.zv_hash.proofs.Walk.{below_next}
 use Rattle.zv_hash.proofs.placement.hold.Goals as goal
 

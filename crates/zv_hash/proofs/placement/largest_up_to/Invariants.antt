@@ -1,4 +1,4 @@
-use Rattle.std.proofs.Common.{ℕ, ◌<◌, ◌≤◌, get_or}
+use Rattle.zv_hash.proofs.Common.{ℕ, ◌<◌, ◌≤◌, get_or}
 use Rattle.zv_hash.proofs.placement.largest_up_to.Given as goal
 
 abbrev pub invariant-loop-size : goal.invariant-loop-size

@@ -1,4 +1,4 @@
-use Rattle.std.proofs.Common.{◌≡◌, arith}
+use Rattle.zv_hash.proofs.Common.{◌≡◌, arith}
 use Rattle.zv_hash.proofs.Fillings.{none_filled, size_passed, all_chosen, all_placed}
 use Rattle.zv_hash.proofs.Slots.{size_most}
 use Rattle.zv_hash.proofs.placement.place_all.Goals as goal

@@ -1,5 +1,4 @@
-use Rattle.std.proofs.Common.{length}
-use Rattle.zv_hash.specs.Filling.{Filled}
+use Rattle.zv_hash.proofs.Common.{length, Filled}
 use Rattle.zv_hash.proofs.placement.place_all.Given as goal
 
 abbrev pub invariant-loop-wanted : goal.invariant-loop-wanted

@@ -1,4 +1,4 @@
-use Rattle.std.proofs.Common.{◌≡◌, ◌+◌, ◌-◌, ◌∙◌, sym, arith}
+use Rattle.zv_hash.proofs.Common.{◌≡◌, ◌+◌, ◌-◌, ◌∙◌, sym, arith}
 use Rattle.zv_hash.proofs.Fillings.{turn_passed}
 use Rattle.zv_hash.proofs.placement.place_all_of.Goals as goal
 

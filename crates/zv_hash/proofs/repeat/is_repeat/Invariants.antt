@@ -1,5 +1,4 @@
-use Rattle.std.proofs.Common.{◌≡◌, ℕ, ◌-◌, ◌<◌, ◌≤◌, length, slice_index}
-use Rattle.zv_hash.specs.Placement.{IsMember, bucket_at}
+use Rattle.zv_hash.proofs.Common.{◌≡◌, ℕ, ◌-◌, ◌<◌, ◌≤◌, length, slice_index, IsMember, bucket_at}
 use Rattle.zv_hash.proofs.repeat.is_repeat.Given as goal
 
 -- no hash of the bucket before this one is the same

@@ -1,6 +1,4 @@
-use Rattle.std.proofs.Common.{ℕ, ◌<◌, length}
-use Rattle.zv_hash.specs.Chains.{FitsFree}
-use Rattle.zv_hash.specs.Placement.{IsCandidate, IsEarlier}
+use Rattle.zv_hash.proofs.Common.{ℕ, ◌<◌, length, FitsFree, IsCandidate, IsEarlier}
 use Rattle.zv_hash.proofs.search.first_fit.Given as goal
 
 -- no candidate before this one fits

@@ -1,5 +1,4 @@
-use Rattle.std.proofs.Common.{◌≡◌, ℕ, ◌<◌, ◌≤◌, length, get_or, sym, ◌∙◌, refl, arith}
-use Rattle.zv_hash.specs.Placement.{IsMember, sent_to}
+use Rattle.zv_hash.proofs.Common.{◌≡◌, ℕ, ◌<◌, ◌≤◌, length, get_or, sym, ◌∙◌, refl, arith, IsMember, sent_to}
 use Rattle.zv_hash.proofs.Walk.{below_next}
 use Rattle.zv_hash.proofs.search.fits.Goals as goal
 

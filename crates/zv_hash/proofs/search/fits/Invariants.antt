@@ -1,5 +1,4 @@
-use Rattle.std.proofs.Common.{◌≡◌, ℕ, ◌-◌, ◌<◌, ◌≤◌, length, get_or}
-use Rattle.zv_hash.specs.Placement.{IsMember, bucket_at, sent_to}
+use Rattle.zv_hash.proofs.Common.{◌≡◌, ℕ, ◌-◌, ◌<◌, ◌≤◌, length, get_or, IsMember, bucket_at, sent_to}
 use Rattle.zv_hash.proofs.search.fits.Given as goal
 
 -- the members before this one go to distinct free slots

@@ -1,5 +1,4 @@
-use Rattle.std.proofs.Common.{◌≡◌, ℕ, ◌-◌, ◌<◌, ◌≤◌, length}
-use Rattle.zv_hash.specs.Placement.{IsMember, bucket_at, sent_to}
+use Rattle.zv_hash.proofs.Common.{◌≡◌, ℕ, ◌-◌, ◌<◌, ◌≤◌, length, IsMember, bucket_at, sent_to}
 use Rattle.zv_hash.proofs.search.is_shared.Given as goal
 
 -- no member before this one goes to the slot
