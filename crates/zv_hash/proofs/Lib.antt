@@ -2,7 +2,6 @@ mod Common
 mod Permutations
 mod Remainders
 mod Slots
-mod Walk
 mod Links
 mod Choices
 mod Fillings
