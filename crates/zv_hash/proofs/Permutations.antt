@@ -51,8 +51,8 @@ gathered xs (suc k) all =
           )
     ]
 
-pub placed_permutation : (hs : List ℕ) (ds : List (ℕ × ℕ)) (places : List ℕ) → Placed hs ds places → IsPermutation (range_with_len 0 (length hs)) places
-placed_permutation hs ds places placed =
+pub placed_permutation : {hs : List ℕ} {ds : List (ℕ × ℕ)} {places : List ℕ} → Placed hs ds places → IsPermutation (range_with_len 0 (length hs)) places
+placed_permutation {hs} {places = places} placed =
     let n : ℕ = length hs in
     let long = placed.len in
     let all = gathered places n (λ q h.

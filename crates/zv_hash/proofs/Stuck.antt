@@ -12,11 +12,11 @@ same_turn : (hs : List ℕ) (f g : ℕ) → (IsBefore hs f g → ⊥) → (IsBef
 same_turn hs f g h k = grind arith
 
 -- of two displacements one is earlier, or they are the same
-same_numbers : (a b c d : ℕ) → (IsEarlier (a, b) (c, d) → ⊥) → (IsEarlier (c, d) (a, b) → ⊥) → (a ≡ c) × (b ≡ d)
-same_numbers a b c d h k = grind arith
-
 apart : (d e : ℕ × ℕ) → (IsEarlier d e → ⊥) → (IsEarlier e d → ⊥) → d ≡ e
-apart d e h k = let same = same_numbers d.0 d.1 e.0 e.1 h k in ap (λ x. (x, d.1)) same.0 ∙ ap (λ y. (e.0, y)) same.1
+apart d e h k =
+    let first : d.0 ≡ e.0 = grind arith in
+    let second : d.1 ≡ e.1 = grind arith in
+    ap (λ x. (x, d.1)) first ∙ ap (λ y. (e.0, y)) second
 
 -- in two tables the buckets before g have choices
 module _ (hs : List ℕ) (g : ℕ) (ds es : List (ℕ × ℕ)) (one : (f : ℕ) → f < length hs → 0 < size hs f → IsBefore hs f g → IsChoice hs ds f)
@@ -64,9 +64,9 @@ module _ (hs : List ℕ) (g : ℕ) (ds es : List (ℕ × ℕ)) (one : (f : ℕ) 
       (λ j h b. sym (same_slots g (λ _ before. before) (λ e _. all_alike (length hs + 1) e (omega arith)) j h b)) choice.fits)
 
 -- hashes with a bucket that is stuck have no table
-pub chosen_not_stuck : (hs : List ℕ) (ds : List (ℕ × ℕ)) (g : ℕ) → Chosen hs ds → IsStuck hs g → ⊥
-chosen_not_stuck hs ds g chosen stuck =
-    not_chosen hs g stuck.ds ds stuck.before (λ f h pos b. chosen.choices f h pos) stuck.none (chosen.choices g stuck.within stuck.some)
+pub chosen_not_stuck : {hs : List ℕ} {ds : List (ℕ × ℕ)} {g : ℕ} → Chosen hs ds → IsStuck hs g → ⊥
+chosen_not_stuck {g = g} chosen stuck =
+    not_chosen _ g stuck.ds _ stuck.before (λ f h pos b. chosen.choices f h pos) stuck.none (chosen.choices g stuck.within stuck.some)
 
 later_not_stuck : (hs : List ℕ) (g h : ℕ) → IsStuck hs g → IsStuck hs h → IsBefore hs g h → ⊥
 later_not_stuck hs g h stuck later b =

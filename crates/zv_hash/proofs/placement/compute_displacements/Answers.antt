@@ -5,11 +5,10 @@ use Rattle.zv_hash.proofs.Stuck.{chosen_not_stuck}
 use Rattle.zv_hash.proofs.placement.compute_displacements.Goals as goal
 
 pub returns-clause-unstuck : goal.returns-clause-unstuck
-returns-clause-unstuck c g stuck = chosen_not_stuck c.args.key_hashes.now _ g c.in_ok-place_hashes.ensures.0 stuck
+returns-clause-unstuck c _ = chosen_not_stuck c.in_ok-place_hashes.ensures.0
 
 pub returns-clause-permutation : goal.returns-clause-permutation
 returns-clause-permutation c =
-    let places = c.place_hashes.new.places in
     let placed = c.in_ok-place_hashes.ensures.1 in
-    let len : c.in_ok-reverse_mapping.reverse_mapping.len ≡ length places = omega (arith, placed.len, c.in_ok-reverse_mapping.ensures.len) in
-    rw (len, take-append_seam) (placed_permutation c.args.key_hashes.now _ places placed)
+    let len : c.in_ok-reverse_mapping.reverse_mapping.len ≡ length c.place_hashes.new.places = omega (arith, placed.len, c.in_ok-reverse_mapping.ensures.len) in
+    rw (len, take-append_seam) (placed_permutation placed)
