@@ -1,14 +1,11 @@
 -- Choices while a table is filled: one more displacement leaves those before it, and free slots are those that no bucket before holds.
-use Rattle.zv_hash.proofs.Common.{◌≡◌, ℕ, ◌+◌, ◌<◌, inl, inr, List, length, get_or, sym, ◌∙◌, arith, cases_lt, bucket_at, size, displacement, sent_to}
+use Rattle.zv_hash.proofs.Common.{◌↔◌, ◌≡◌, ℕ, ◌+◌, ◌<◌, inl, inr, List, length, get_or, sym, ◌∙◌, arith, cases_lt, bucket_at, size, displacement, sent_to}
 use Rattle.zv_hash.proofs.Common.{slot_at, IsBefore, Fits, IsChoice, FitsFree, IsDone, Filled}
 use Rattle.zv_hash.proofs.Slots.{sent_below}
 
 -- the buckets before g are those that are placed when it is its turn
-pub done_before : (hs : List ℕ) (f g : ℕ) → IsBefore hs f g → IsDone hs (size hs g) (g + 1) f
-done_before hs f g h = grind arith
-
-before_done : (hs : List ℕ) (f g : ℕ) → IsDone hs (size hs g) (g + 1) f → IsBefore hs f g
-before_done hs f g h = grind arith
+pub turn_comes : (hs : List ℕ) (f g : ℕ) → IsBefore hs f g ↔ IsDone hs (size hs g) (g + 1) f
+turn_comes hs f g = (λ before. grind arith, λ done. grind arith)
 
 -- ---- free slots
 
@@ -19,7 +16,7 @@ fits_free {hs} {places = places} {g = g} {d = d} filled fits = record {
   free = λ i m. elim (cases_lt (get_or places (sent_to hs d i) 0) (length hs)) [
     | inl held ↦
         let by = filled.free (sent_to hs d i) (sent_below hs d i m.within) held in
-        absurd (fits.free i _ m held (before_done hs _ g by.0) (sym by.1))
+        absurd (fits.free i _ m held ((turn_comes hs _ g).1 by.0) (sym by.1))
     | inr free ↦ free
   ];
 }
@@ -29,7 +26,7 @@ pub free_fits : {hs : List ℕ} {ds : List (ℕ × ℕ)} {places : List ℕ} {g 
 free_fits {hs} {g = g} filled fits = record {
   distinct = fits.distinct;
   free = λ i j m within before same.
-      let held = filled.held j within (done_before hs _ g before) in
+      let held = filled.held j within ((turn_comes hs _ g).0 before) in
       let free = rw same at (fits.free i m) in
       omega arith;
 }

@@ -1,5 +1,5 @@
 -- Tests that compute what the definitions say of a list of hashes, for worked examples.
-use Rattle.zv_hash.proofs.Common.{◌≡◌, ℕ, zero, suc, ◌+◌, ◌<◌, ◌==◌, ◌⊎◌, Bool, true, false, not, ◌&&◌, ◌||◌, cond, max, nat_lt, List, length, refl, ap}
+use Rattle.zv_hash.proofs.Common.{IsMember, ◌≡◌, ℕ, zero, suc, ◌+◌, ◌<◌, ◌==◌, ◌⊎◌, Bool, true, false, not, ◌&&◌, ◌||◌, cond, max, nat_lt, List, length, refl, ap}
 use Rattle.zv_hash.proofs.Common.{◌∙◌, IsBefore, IsCandidate, bucket_at, size, displacement, sent_to, slot_at, Fits, IsChoice, IsStuck, Chosen}
 use Rattle.std.specs.Bool.{Decides}
 use Rattle.std.proofs.lemmas.Bool.Decides.{Decides-and, Decides-below_and, Decides-eqb, Decides-like, Decides-ltb, Decides-not, Decides-or, not_from_Decides}
@@ -27,6 +27,10 @@ fails p = record { passes = not p.passes; decides = Decides-not _ p.decides }
 abbrev alike : {P Q : Type 0} → (P → Q) → (Q → P) → Test P → Test Q
 alike to from p = record { passes = p.passes; decides = Decides-like _ to from p.decides }
 
+abbrev equal_pairs : (d e : ℕ × ℕ) → Test (d ≡ e)
+equal_pairs d e =
+    alike (λ h. ap (λ x. (x, d.1)) h.0 ∙ ap (λ y. (e.0, y)) h.1) (λ h. (ap (λ d. d.0) h, ap (λ d. d.1) h)) (both (equal d.0 e.0) (equal d.1 e.1))
+
 pub Decides-implies : {P Q : Type 0} (a b : Bool) → Decides a P → Decides b Q → Decides (cond a b true) (P → Q)
 Decides-implies true b d k = (λ e _. k.0 e, λ h. k.1 (h (d.0 refl)))
 Decides-implies false b d k = (λ _ p. absurd (not_from_Decides false d refl p), λ _. refl)
@@ -52,20 +56,17 @@ is_first a b x y c d = either (less a b) (both (equal x y) (less c d))
 abbrev is_before : (hs : List ℕ) (f g : ℕ) → Test (IsBefore hs f g)
 is_before hs f g = is_first (size hs g) (size hs f) (size hs f) (size hs g) g f
 
+-- a test passes of each hash of a bucket
+abbrev every_member : {P : ℕ → Type 0} → (hs : List ℕ) (g : ℕ) → ((i : ℕ) → Test (P i)) → Test ((i : ℕ) → IsMember hs g i → P i)
+every_member hs g each =
+    alike (λ h i m. h i m.within m.bucket) (λ h i within bucket. h i (record { within = within; bucket = bucket }))
+    (every (length hs) (λ i. implies (equal (bucket_at hs i) g) (each i)))
+
 abbrev fits : (hs : List ℕ) (ds : List (ℕ × ℕ)) (g : ℕ) (d : ℕ × ℕ) → Test (Fits hs ds g d)
 fits hs ds g d =
-    alike (λ h. record {
-      distinct = λ i j p q e. (h i p.within j q.within p.bucket).0 q.bucket e;
-      free = λ i j p k before e. (h i p.within j k p.bucket).1 before e;
-    })
-    (λ f i h j k at. (
-      λ also e. f.distinct i j (record { within = h; bucket = at }) (record { within = k; bucket = also }) e,
-      λ before e. f.free i j (record { within = h; bucket = at }) k before e,
-    ))
-    (every (length hs) (λ i. every (length hs) (λ j.
-    implies (equal (bucket_at hs i) g) (both
-    (implies (equal (bucket_at hs j) g) (implies (equal (sent_to hs d i) (sent_to hs d j)) (equal i j)))
-    (implies (is_before hs (bucket_at hs j) g) (fails (equal (sent_to hs d i) (slot_at hs ds j))))))))
+    alike (λ h. record { distinct = λ i j p q. h.0 i p j q; free = λ i j p k. h.1 i p j k }) (λ f. (λ i p j q. f.distinct i j p q, λ i p j k. f.free i j p k))
+    (both (every_member hs g (λ i. every_member hs g (λ j. implies (equal (sent_to hs d i) (sent_to hs d j)) (equal i j))))
+    (every_member hs g (λ i. every (length hs) (λ j. implies (is_before hs (bucket_at hs j) g) (fails (equal (sent_to hs d i) (slot_at hs ds j)))))))
 
 abbrev candidate : (n : ℕ) (d : ℕ × ℕ) → Test (IsCandidate n d)
 candidate n d =
@@ -87,14 +88,9 @@ choice hs ds g =
 
 abbrev chosen : (hs : List ℕ) (ds : List (ℕ × ℕ)) → Test (Chosen hs ds)
 chosen hs ds =
-    alike (λ h. record {
-      len = h.0;
-      choices = λ g k. (h.1 g k).0;
-      empty = λ g k none. let zeros = (h.1 g k).1 none in ap (λ x. (x, (displacement ds g).1)) zeros.0 ∙ ap (λ y. (0, y)) zeros.1;
-    })
-    (λ c. (c.len, λ g k. (c.choices g k, λ none. (ap (λ d. d.0) (c.empty g k none), ap (λ d. d.1) (c.empty g k none)))))
-    (both (equal (length ds) (length hs)) (every (length hs) (λ g. both (implies (less 0 (size hs g)) (choice hs ds g))
-    (implies (equal (size hs g) 0) (both (equal (displacement ds g).0 0) (equal (displacement ds g).1 0))))))
+    alike (λ h. record { len = h.0; choices = λ g k. (h.1 g k).0; empty = λ g k. (h.1 g k).1 }) (λ c. (c.len, λ g k. (c.choices g k, c.empty g k)))
+    (both (equal (length ds) (length hs)) (every (length hs) (λ g.
+    both (implies (less 0 (size hs g)) (choice hs ds g)) (implies (equal (size hs g) 0) (equal_pairs (displacement ds g) (0, 0))))))
 
 -- bucket g is stuck where the buckets before it have their displacements by ds
 abbrev stuck : (hs : List ℕ) (ds : List (ℕ × ℕ)) (g : ℕ) → Test ((g < length hs) × ((0 < size hs g)

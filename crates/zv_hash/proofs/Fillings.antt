@@ -5,7 +5,7 @@ use Rattle.zv_hash.proofs.Common.{size, displacement, sent_to, slot_at, IsBefore
 use Rattle.std.proofs.lemmas.Bool.Decides.{nat_tests}
 use Rattle.zv_hash.proofs.Permutations.{onto}
 use Rattle.zv_hash.proofs.Slots.{bucket_below, sent_below, bucket_size}
-use Rattle.zv_hash.proofs.Choices.{done_before, fits_free, free_fits, same_fits, same_choice, SameSlots}
+use Rattle.zv_hash.proofs.Choices.{turn_comes, fits_free, free_fits, same_fits, same_choice, SameSlots}
 
 -- an empty table
 pub none_filled : {hs : List ℕ} {ds : List (ℕ × ℕ)} {places : List ℕ} {s : ℕ} → ds ≡ replicate (length hs) (0, 0) → places ≡ replicate (length hs) (length hs)
@@ -44,12 +44,10 @@ size_passed less next filled = told_again (λ f h. let least = next f h in (λ d
 
 -- ---- one bucket more
 
--- a bucket is placed or it was before
-last_or_before : (hs : List ℕ) (f g : ℕ) → IsDone hs (size hs g) g f → (f ≡ g) ⊎ IsDone hs (size hs g) (g + 1) f
-last_or_before hs f g done = grind arith
-
-stays_done : (hs : List ℕ) (f g : ℕ) → IsDone hs (size hs g) (g + 1) f → IsDone hs (size hs g) g f
-stays_done hs f g done = grind arith
+-- a bucket is placed: it is the last, or it was before
+last_or_before : (hs : List ℕ) (f g : ℕ) → IsDone hs (size hs g) g f ↔ ((f ≡ g) ⊎ IsDone hs (size hs g) (g + 1) f)
+last_or_before hs f g =
+    (λ done. grind arith, λ either. elim either [ inl same ↦ inr (ap (size hs) same, omega arith) | inr before ↦ grind arith ])
 
 done_other : (hs : List ℕ) (f g : ℕ) → IsDone hs (size hs g) (g + 1) f → f ≡ g → ⊥
 done_other hs f g done same = grind arith
@@ -66,7 +64,7 @@ module _ {hs : List ℕ} {ds : List (ℕ × ℕ)} {old : List ℕ} {g : ℕ} (fi
   own_slot d j at = let len = filled.ds_len in ap (λ e. sent_to hs e j) (rw at (get_or-set_same ds g d (0, 0) (omega arith)))
 
   g_slots : (d : ℕ × ℕ) → SameSlots hs ds (set ds g d) g
-  g_slots d j h before = kept_slot d j (done_before hs _ g before)
+  g_slots d j h before = kept_slot d j ((turn_comes hs _ g).0 before)
 
   pub one_filled : {new : List ℕ} {d : ℕ × ℕ} → IsCandidate (length hs) d → FitsFree hs old g d
       → ((e : ℕ × ℕ) → IsCandidate (length hs) e → IsEarlier e d → FitsFree hs old g e → ⊥)
@@ -81,18 +79,19 @@ module _ {hs : List ℕ} {ds : List (ℕ × ℕ)} {old : List ℕ} {g : ℕ} (fi
       record {
         ds_len = length-set ds g d ∙ ds_len;
         len = len ∙ old_len;
-        choices = λ f h done. elim (last_or_before hs f g done) [
+        choices = λ f h done. elim ((last_or_before hs f g).0 done) [
           | inl same ↦ rw same (record {
             candidate = rw is candidate;
             fits = rw is (same_fits (g_slots d) (free_fits filled fits));
             first = λ e c earlier now. first e c (rw is at earlier) (fits_free filled (same_fits (λ j h b. sym (g_slots d j h b)) now));
           })
-          | inr before ↦ same_choice (get_or-set_other ds g f d (0, 0) (done_other hs f g before)) (λ j h b. kept_slot d j (placed_before hs _ f g b before)) (filled.choices f h before)
+          | inr before ↦ same_choice (get_or-set_other ds g f d (0, 0) (done_other hs f g before))
+              (λ j h b. kept_slot d j (placed_before hs _ f g b before)) (filled.choices f h before)
         ];
         empty = λ f h undone.
-            get_or-set_other ds g f d (0, 0) (λ same. undone (inr (ap (size hs) same, omega arith)))
-            ∙ filled.empty f h (λ done. undone (stays_done hs f g done));
-        held = λ i h done. elim (last_or_before hs _ g done) [
+            let now : ((f ≡ g) ⊎ IsDone hs (size hs g) (g + 1) f) → ⊥ = λ either. undone ((last_or_before hs f g).1 either) in
+            get_or-set_other ds g f d (0, 0) (λ same. now (inl same)) ∙ filled.empty f h (λ done. now (inr done));
+        held = λ i h done. elim ((last_or_before hs _ g).0 done) [
           | inl same ↦ ap (λ s. get_or new s 0) (own_slot d i same) ∙ held i (record { within = h; bucket = same })
           | inr before ↦
               let there = filled.held i h before in
@@ -102,10 +101,10 @@ module _ {hs : List ℕ} {ds : List (ℕ × ℕ)} {old : List ℕ} {g : ℕ} (fi
               ]
         ];
         free = λ t h placed. elim (either t) [
-          | inl taken ↦ let at = taken.0.bucket in (inr (ap (size hs) at, omega arith), own_slot d _ at ∙ taken.1)
+          | inl taken ↦ ((last_or_before hs _ g).1 (inl taken.0.bucket), own_slot d _ taken.0.bucket ∙ taken.1)
           | inr kept ↦ rw kept (
               let was = filled.free t h (rw kept at placed) in
-              (stays_done hs _ g was.0, kept_slot d _ was.0 ∙ was.1))
+              ((last_or_before hs _ g).1 (inr was.0), kept_slot d _ was.0 ∙ was.1))
         ];
       }
 
@@ -114,7 +113,7 @@ module _ {hs : List ℕ} {ds : List (ℕ × ℕ)} {old : List ℕ} {g : ℕ} (fi
     within = within;
     some = some;
     ds = ds;
-    before = λ f h pos before. filled.choices f h (done_before hs f g before);
+    before = λ f h pos before. filled.choices f h ((turn_comes hs f g).0 before);
     none = λ e candidate fits. none e candidate (fits_free filled fits);
   }
 
@@ -146,6 +145,6 @@ all_placed {hs} {ds} {places} filled =
       distinct = λ s t h k same. sym (back s h) ∙ ap (slot_at hs ds) same ∙ back t k;
       slots = λ s h.
           let i : ℕ = get_or places s 0 in
-          let choice = (all_chosen filled).choices (bucket_at hs i) (bucket_below hs i (full s h)) (bucket_size hs i (full s h)) in
+          let choice = filled.choices (bucket_at hs i) (bucket_below hs i (full s h)) (inl (bucket_size hs i (full s h))) in
           rw (back s h) (found_slot _ _ n s choice.candidate.some (omega arith));
     }
