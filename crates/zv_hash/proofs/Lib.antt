@@ -1,6 +1,5 @@
 mod Common
 mod Permutations
-mod Remainders
 mod Slots
 mod Links
 mod Choices

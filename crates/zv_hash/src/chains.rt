@@ -28,7 +28,6 @@ impl Chains<'_> {
 
     /// The slot that the displacement sends the hash at a place to.
     #[inline(always)]
-    #[tactic(auto, using(crate::proofs::Slots::slot_below))]
     pub fn slot(self, displacement: (u32, u32), place: usize) -> usize
         requires { place < length self.hashes.now }
         ensures slot { result ≡ sent_to self.entry.hashes.now displacement place }

@@ -33,7 +33,6 @@ impl Row {
 
     /// The slot. There is a division only where the sum is 2^32 or more.
     #[inline(always)]
-    #[tactic(auto, using(crate::proofs::Remainders::by_remainder, crate::proofs::Remainders::by_more))]
     pub fn slot(self, second: u32) -> u32
         requires { second ≤ self.slots }
         ensures { result ≡ slot_on self second }
