@@ -7,31 +7,27 @@ use Rattle.zv_hash.proofs.Slots.{sent_below}
 pub turn_comes : (hs : List ℕ) (f g : ℕ) → IsBefore hs f g ↔ IsDone hs (size hs g) (g + 1) f
 turn_comes hs f g = (λ before. grind arith, λ done. grind arith)
 
--- ---- free slots
-
-pub fits_free : {hs : List ℕ} {ds : List (ℕ × ℕ)} {places : List ℕ} {g : ℕ} {d : ℕ × ℕ} → Filled hs ds places (size hs g) (g + 1) → Fits hs ds g d
-    → FitsFree hs places g d
-fits_free {hs} {places = places} {g = g} {d = d} filled fits = record {
-  distinct = fits.distinct;
-  free = λ i m. elim (cases_lt (get_or places (sent_to hs d i) 0) (length hs)) [
-    | inl held ↦
-        let by = filled.free (sent_to hs d i) (sent_below hs d i m.within) held in
-        absurd (fits.free i _ m held ((turn_comes hs _ g).1 by.0) (sym by.1))
-    | inr free ↦ free
-  ];
-}
-
-pub free_fits : {hs : List ℕ} {ds : List (ℕ × ℕ)} {places : List ℕ} {g : ℕ} {d : ℕ × ℕ} → Filled hs ds places (size hs g) (g + 1) → FitsFree hs places g d
-    → Fits hs ds g d
-free_fits {hs} {g = g} filled fits = record {
-  distinct = fits.distinct;
-  free = λ i j m within before same.
-      let held = filled.held j within ((turn_comes hs _ g).0 before) in
-      let free = rw same at (fits.free i m) in
-      omega arith;
-}
-
--- ---- another displacement
+-- the free slots are those that no bucket before g holds
+pub fits_free : {hs : List ℕ} {ds : List (ℕ × ℕ)} {places : List ℕ} {g : ℕ} {d : ℕ × ℕ} → Filled hs ds places (size hs g) (g + 1)
+    → Fits hs ds g d ↔ FitsFree hs places g d
+fits_free {hs} {places = places} {g = g} {d = d} filled = (
+  λ fits. record {
+    distinct = fits.distinct;
+    free = λ i m. elim (cases_lt (get_or places (sent_to hs d i) 0) (length hs)) [
+      | inl held ↦
+          let by = filled.free (sent_to hs d i) (sent_below hs d i m.within) held in
+          absurd (fits.free i _ m held ((turn_comes hs _ g).1 by.0) (sym by.1))
+      | inr free ↦ free
+    ];
+  },
+  λ fits. record {
+    distinct = fits.distinct;
+    free = λ i j m within before same.
+        let held = filled.held j within ((turn_comes hs _ g).0 before) in
+        let free = rw same at (fits.free i m) in
+        omega arith;
+  },
+)
 
 -- the hashes of the buckets before g have the same slots
 abbrev pub SameSlots : List ℕ → List (ℕ × ℕ) → List (ℕ × ℕ) → ℕ → Type 0

@@ -5,7 +5,7 @@ use Rattle.zv_hash.proofs.Common.{size, displacement, sent_to, slot_at, IsBefore
 use Rattle.std.proofs.lemmas.Bool.Decides.{nat_tests}
 use Rattle.zv_hash.proofs.Permutations.{onto}
 use Rattle.zv_hash.proofs.Slots.{bucket_below, sent_below, bucket_size}
-use Rattle.zv_hash.proofs.Choices.{turn_comes, fits_free, free_fits, same_fits, same_choice, SameSlots}
+use Rattle.zv_hash.proofs.Choices.{turn_comes, fits_free, same_fits, same_choice, SameSlots}
 
 -- an empty table
 pub none_filled : {hs : List ℕ} {ds : List (ℕ × ℕ)} {places : List ℕ} {s : ℕ} → ds ≡ replicate (length hs) (0, 0) → places ≡ replicate (length hs) (length hs)
@@ -82,8 +82,8 @@ module _ {hs : List ℕ} {ds : List (ℕ × ℕ)} {old : List ℕ} {g : ℕ} (fi
         choices = λ f h done. elim ((last_or_before hs f g).0 done) [
           | inl same ↦ rw same (record {
             candidate = rw is candidate;
-            fits = rw is (same_fits (g_slots d) (free_fits filled fits));
-            first = λ e c earlier now. first e c (rw is at earlier) (fits_free filled (same_fits (λ j h b. sym (g_slots d j h b)) now));
+            fits = rw is (same_fits (g_slots d) ((fits_free filled).1 fits));
+            first = λ e c earlier now. first e c (rw is at earlier) ((fits_free filled).0 (same_fits (λ j h b. sym (g_slots d j h b)) now));
           })
           | inr before ↦ same_choice (get_or-set_other ds g f d (0, 0) (done_other hs f g before))
               (λ j h b. kept_slot d j (placed_before hs _ f g b before)) (filled.choices f h before)
@@ -114,7 +114,7 @@ module _ {hs : List ℕ} {ds : List (ℕ × ℕ)} {old : List ℕ} {g : ℕ} (fi
     some = some;
     ds = ds;
     before = λ f h pos before. filled.choices f h ((turn_comes hs f g).0 before);
-    none = λ e candidate fits. none e candidate (fits_free filled fits);
+    none = λ e candidate fits. none e candidate ((fits_free filled).0 fits);
   }
 
 -- ---- the whole table

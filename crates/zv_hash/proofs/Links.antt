@@ -1,5 +1,5 @@
 -- Chains that are made from the last place on, and the walk along one.
-use Rattle.zv_hash.proofs.Common.{◌≡◌, ℕ, ◌+◌, ◌<◌, ◌≤◌, inl, inr, List, length, get_or, set, replicate, refl, sym, ◌∙◌, arith, length-set, get_or-set_same}
+use Rattle.zv_hash.proofs.Common.{ap, ◌≡◌, ℕ, ◌+◌, ◌<◌, ◌≤◌, inl, inr, List, length, get_or, set, replicate, refl, sym, ◌∙◌, arith, length-set, get_or-set_same}
 use Rattle.zv_hash.proofs.Common.{get_or-set_other, cases_eq, cases_order, get_or-replicate, length-replicate, bucket_at, IsMember, IsNext, AreChains}
 
 -- a place is its own next, and so is the end
@@ -15,15 +15,6 @@ no_links {hs} ends room = rw ends (record {
   next = λ i above within. absurd (omega arith);
 })
 
--- what begins one place before
-earlier : {hs : List ℕ} {g q : ℕ} (p : ℕ) → (bucket_at hs p ≡ g → ⊥) → IsNext hs g (p + 1) q → IsNext hs g p q
-earlier p other next = record {
-  above = omega arith;
-  within = next.within;
-  member = next.member;
-  none = λ i above below at. elim (cases_eq i p) [ inl same ↦ other (rw same at at) | inr apart ↦ next.none i (omega arith) below at ];
-}
-
 -- one place more
 pub one_link : {hs firsts nexts : List ℕ} {p : ℕ} → p < length hs → bucket_at hs p < length hs → AreChains hs (p + 1) firsts nexts
     → AreChains hs p (set firsts (bucket_at hs p) p) (set nexts p (get_or firsts (bucket_at hs p) 0))
@@ -36,7 +27,15 @@ one_link {hs} {firsts} {nexts} {p} within bucket old =
       next_len = length-set nexts p (get_or firsts g 0) ∙ next_len;
       first = λ f h. elim (cases_eq f g) [
         | inl same ↦ rw (same, get_or-set_same firsts g p 0 (omega arith)) (next_itself (omega arith) (λ _. refl))
-        | inr apart ↦ rw (get_or-set_other firsts g f p 0 apart) (earlier p (λ e. apart (sym e)) (old.first f h))
+        | inr apart ↦
+            let next = old.first f h in
+            rw (get_or-set_other firsts g f p 0 apart) (record {
+              above = omega arith;
+              within = next.within;
+              member = next.member;
+              none = λ i above below at.
+                  elim (cases_eq i p) [ inl same ↦ apart (sym at ∙ ap (bucket_at hs) same) | inr later ↦ next.none i (omega arith) below at ];
+            })
       ];
       next = λ i above i_within. elim (cases_eq i p) [
         | inl same ↦ rw (same, get_or-set_same nexts p (get_or firsts g 0) 0 (omega arith)) (old.first g bucket)

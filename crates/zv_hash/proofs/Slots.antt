@@ -2,7 +2,7 @@
 use Rattle.zv_hash.proofs.Common.{ℕ, ◌+◌, ◌*◌, ◌/◌, ◌%◌, ◌^◌, ◌<◌, ◌≤◌, ◌==◌, cond, List, length, get_or, arith, inl, refl, inr, cases_lt, eq-eqb, ne_eqb}
 use Rattle.zv_hash.proofs.Common.{AreChains, bucket_at, size, sent_to}
 use Rattle.std.proofs.lemmas.List.Elements.{All-from_get_or}
-use Rattle.std.proofs.lemmas.List.Sums.{count_by-le-length, get_or-le-sum_by, sum_by-le}
+use Rattle.std.proofs.lemmas.List.Sums.{get_or-le-sum_by, sum_by-le}
 use Rattle.std.proofs.lemmas.Nat.{mod_below}
 use Rattle.zv_hash.specs.Splitting.{bucket_of, slot_of}
 
@@ -21,9 +21,6 @@ pub bucket_size : (hs : List ℕ) (i : ℕ) → i < length hs → 0 < size hs (b
 bucket_size hs i h =
     let one = get_or-le-sum_by (λ x. cond (bucket_of (length hs) x == bucket_at hs i) 1 0) hs i 0 h in
     omega (arith, rw (eq-eqb (bucket_at hs i) (bucket_at hs i) refl) at one)
-
-pub size_most : (hs : List ℕ) (g : ℕ) → size hs g ≤ length hs
-size_most hs g = count_by-le-length (λ h. bucket_of (length hs) h == g) hs
 
 -- a bucket with a size has a first place
 pub first_member : {hs firsts nexts : List ℕ} (g : ℕ) → AreChains hs 0 firsts nexts → g < length hs → 0 < size hs g → get_or firsts g 0 < length hs

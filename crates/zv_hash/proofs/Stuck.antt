@@ -1,8 +1,9 @@
 -- Buckets choose alike wherever all before them do, so a bucket that is stuck is stuck in every table.
-use Rattle.zv_hash.proofs.Common.{◌≡◌, ℕ, zero, suc, ◌+◌, ◌<◌, ◌≤◌, inl, inr, List, length, ap, sym, arith, refl, ◌∙◌, bucket_at, size, displacement}
+use Rattle.zv_hash.proofs.Common.{◌==◌, bucket_of, ◌≡◌, ℕ, zero, suc, ◌+◌, ◌<◌, ◌≤◌, inl, inr, List, length, ap, sym, arith, refl, ◌∙◌, bucket_at, size, displacement}
 use Rattle.zv_hash.proofs.Common.{slot_at, sent_to, Fits, IsBefore, IsCandidate, IsEarlier, IsChoice, IsStuck, Chosen}
+use Rattle.std.proofs.lemmas.List.Sums.{count_by-le-length}
 use Rattle.zv_hash.proofs.Choices.{same_fits}
-use Rattle.zv_hash.proofs.Slots.{bucket_below, bucket_size, size_most}
+use Rattle.zv_hash.proofs.Slots.{bucket_below, bucket_size}
 
 transitive : (hs : List ℕ) (e f g : ℕ) → IsBefore hs e f → IsBefore hs f g → IsBefore hs e g
 transitive hs e f g h k = grind arith
@@ -54,7 +55,7 @@ module _ (hs : List ℕ) (g : ℕ) (ds es : List (ℕ × ℕ)) (one : (f : ℕ) 
 
   -- all sizes, from the largest on
   all_alike : (j f : ℕ) → length hs < size hs f + j → Alike f
-  all_alike zero f large up = absurd (omega (arith, size_most hs f))
+  all_alike zero f large up = absurd (omega (arith, count_by-le-length (λ h. bucket_of (length hs) h == f) hs))
   all_alike (suc j) f large up = of_size (size hs f) (λ e more. all_alike j e (omega arith)) (length hs) f refl (omega arith) up
 
   -- and no displacement that fits g in one table is one too many in the other
