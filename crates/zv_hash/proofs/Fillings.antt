@@ -61,7 +61,7 @@ module _ {hs : List ℕ} {ds : List (ℕ × ℕ)} {old : List ℕ} {g : ℕ} (fi
   kept_slot d j done = ap (λ e. sent_to hs e j) (get_or-set_other ds g (bucket_at hs j) d (0, 0) (done_other hs _ g done))
 
   own_slot : (d : ℕ × ℕ) (j : ℕ) → bucket_at hs j ≡ g → slot_at hs (set ds g d) j ≡ sent_to hs d j
-  own_slot d j at = let len = filled.ds_len in ap (λ e. sent_to hs e j) (rw at (get_or-set_same ds g d (0, 0) (omega arith)))
+  own_slot d j at = ap (λ e. sent_to hs e j) (rw at (get_or-set_same ds g d (0, 0) (omega arith)))
 
   g_slots : (d : ℕ × ℕ) → SameSlots hs ds (set ds g d) g
   g_slots d j h before = kept_slot d j ((turn_comes hs _ g).0 before)
@@ -73,12 +73,10 @@ module _ {hs : List ℕ} {ds : List (ℕ × ℕ)} {old : List ℕ} {g : ℕ} (fi
       → ((t : ℕ) → (IsMember hs g (get_or new t 0) × (sent_to hs d (get_or new t 0) ≡ t)) ⊎ (get_or new t 0 ≡ get_or old t 0))
       → Filled hs (set ds g d) new (size hs g) g
   one_filled {new} {d} candidate fits first len held either =
-      let ds_len = filled.ds_len in
-      let old_len = filled.len in
       let is : displacement (set ds g d) g ≡ d = get_or-set_same ds g d (0, 0) (omega arith) in
       record {
-        ds_len = length-set ds g d ∙ ds_len;
-        len = len ∙ old_len;
+        ds_len = length-set ds g d ∙ filled.ds_len;
+        len = len ∙ filled.len;
         choices = λ f h done. elim ((last_or_before hs f g).0 done) [
           | inl same ↦ rw same (record {
             candidate = rw is candidate;

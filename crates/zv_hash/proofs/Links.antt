@@ -20,11 +20,9 @@ pub one_link : {hs firsts nexts : List ℕ} {p : ℕ} → p < length hs → buck
     → AreChains hs p (set firsts (bucket_at hs p) p) (set nexts p (get_or firsts (bucket_at hs p) 0))
 one_link {hs} {firsts} {nexts} {p} within bucket old =
     let g : ℕ = bucket_at hs p in
-    let first_len = old.first_len in
-    let next_len = old.next_len in
     record {
-      first_len = length-set firsts g p ∙ first_len;
-      next_len = length-set nexts p (get_or firsts g 0) ∙ next_len;
+      first_len = length-set firsts g p ∙ old.first_len;
+      next_len = length-set nexts p (get_or firsts g 0) ∙ old.next_len;
       first = λ f h. elim (cases_eq f g) [
         | inl same ↦ rw (same, get_or-set_same firsts g p 0 (omega arith)) (next_itself (omega arith) (λ _. refl))
         | inr apart ↦

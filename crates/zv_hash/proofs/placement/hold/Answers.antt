@@ -12,10 +12,9 @@ loop-place-preserved c =
     let within = c.loop-place-test.true in
     let here : IsMember c.args.chains.hashes.now c.args.bucket p = record { within = within; bucket = old.member within } in
     let next = c.args.chains.linked.next p (omega arith) within in
-    let len = old.len in
-    let same = get_or-set_same places slot p 0 (omega (arith, len, c.slot.ensures.within)) in
+    let same = get_or-set_same places slot p 0 (omega (arith, old.len, c.slot.ensures.within)) in
     record {
-      len = length-set places slot p ∙ len;
+      len = length-set places slot p ∙ old.len;
       within = next.within;
       member = λ h. next.member h ∙ here.bucket;
       held = below_next here next
