@@ -1,6 +1,6 @@
 -- Tests that compute what the definitions say of a list of hashes, for worked examples.
-use Rattle.zv_hash.proofs.Common.{IsMember, ◌≡◌, ℕ, zero, suc, ◌+◌, ◌<◌, ◌==◌, ◌⊎◌, Bool, true, false, not, ◌&&◌, ◌||◌, cond, max, nat_lt, List, length, refl, ap}
-use Rattle.zv_hash.proofs.Common.{◌∙◌, IsBefore, IsCandidate, bucket_at, size, displacement, sent_to, slot_at, Fits, IsChoice, IsStuck, Chosen}
+use Rattle.zv_hash.proofs.Common.{IsMember, ◌≡◌, ℕ, zero, suc, ◌+◌, ◌<◌, ◌==◌, ◌⊎◌, Bool, true, false, not, ◌&&◌, ◌||◌, cond, max, nat_lt, List, length}
+use Rattle.zv_hash.proofs.Common.{refl, ap, ◌∙◌, IsBefore, IsCandidate, bucket_at, size, displacement, sent_to, slot_at, Fits, IsChoice, IsStuck, Chosen}
 use Rattle.std.specs.Bool.{Decides}
 use Rattle.std.proofs.lemmas.Bool.Decides.{Decides-and, Decides-below_and, Decides-eqb, Decides-like, Decides-ltb, Decides-not, Decides-or, not_from_Decides}
 

@@ -1,6 +1,7 @@
 -- Chains that are made from the last place on, and the walk along one.
-use Rattle.zv_hash.proofs.Common.{ap, ◌≡◌, ℕ, ◌+◌, ◌<◌, ◌≤◌, inl, inr, List, length, get_or, set, replicate, refl, sym, ◌∙◌, arith, length-set, get_or-set_same}
-use Rattle.zv_hash.proofs.Common.{get_or-set_other, cases_eq, cases_order, get_or-replicate, length-replicate, bucket_at, IsMember, IsNext, AreChains}
+use Rattle.zv_hash.proofs.Common.{ap, ◌≡◌, ℕ, ◌+◌, ◌<◌, ◌≤◌, inl, inr, List, length, get_or, set, replicate, refl, sym, ◌∙◌, arith, length-set}
+use Rattle.zv_hash.proofs.Common.{get_or-set_same, get_or-set_other, cases_eq, cases_order, get_or-replicate, length-replicate, bucket_at, IsMember, IsNext}
+use Rattle.zv_hash.proofs.Common.{AreChains}
 
 -- a place is its own next, and so is the end
 next_itself : {hs : List ℕ} {g p : ℕ} → p ≤ length hs → (p < length hs → bucket_at hs p ≡ g) → IsNext hs g p p

@@ -38,9 +38,7 @@ gathered xs zero all = (xs, IsPermutation-refl xs)
 gathered xs (suc k) all =
     let before = gathered xs k (λ q h. all q (omega arith)) in
     elim (Contains-append_cases (range_with_len 0 k) before.0 k (Contains-permutation xs _ k before.1 (all k (omega arith)))) [
-      | inl early ↦
-          let less : early.0 < k = omega (arith, early.1, length-range_with_len 0 k) in
-          absurd (omega (arith, early.2, get_or-range_with_len 0 k early.0 k less))
+      | inl early ↦ absurd (omega (arith, early.1, early.2, length-range_with_len 0 k, get_or-range_with_len 0 k early.0 k))
       | inr there ↦
           let left : List ℕ = remove before.0 there.0 in
           let more : range_with_len 0 (suc k) ≡ range_with_len 0 k ++ k ∷ [] =
@@ -54,7 +52,6 @@ gathered xs (suc k) all =
 pub placed_permutation : {hs : List ℕ} {ds : List (ℕ × ℕ)} {places : List ℕ} → Placed hs ds places → IsPermutation (range_with_len 0 (length hs)) places
 placed_permutation {hs} {places = places} placed =
     let n : ℕ = length hs in
-    let long = placed.len in
     let all = gathered places n (λ q h.
     let from = onto n (λ s. get_or places s 0) placed.within
     (λ i j less l same. let is : i ≡ j = placed.distinct i j (omega arith) l same in omega arith) q h in

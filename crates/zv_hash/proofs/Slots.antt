@@ -1,8 +1,7 @@
 -- Buckets and slots are below the number of hashes, and a bucket with a member has a size.
 use Rattle.zv_hash.proofs.Common.{ℕ, ◌+◌, ◌*◌, ◌/◌, ◌%◌, ◌^◌, ◌<◌, ◌≤◌, ◌==◌, cond, List, length, get_or, arith, inl, refl, inr, cases_lt, eq-eqb, ne_eqb}
-use Rattle.zv_hash.proofs.Common.{AreChains, bucket_at, size, sent_to}
+use Rattle.zv_hash.proofs.Common.{AreChains, bucket_at, size, sent_to, get_or-le-sum_by, sum_by-le}
 use Rattle.std.proofs.lemmas.List.Elements.{All-from_get_or}
-use Rattle.std.proofs.lemmas.List.Sums.{get_or-le-sum_by, sum_by-le}
 use Rattle.std.proofs.lemmas.Nat.{mod_below}
 use Rattle.zv_hash.specs.Splitting.{bucket_of, slot_of}
 

@@ -1,7 +1,6 @@
 -- Buckets choose alike wherever all before them do, so a bucket that is stuck is stuck in every table.
-use Rattle.zv_hash.proofs.Common.{◌==◌, bucket_of, ◌≡◌, ℕ, zero, suc, ◌+◌, ◌<◌, ◌≤◌, inl, inr, List, length, ap, sym, arith, refl, ◌∙◌, bucket_at, size, displacement}
-use Rattle.zv_hash.proofs.Common.{slot_at, sent_to, Fits, IsBefore, IsCandidate, IsEarlier, IsChoice, IsStuck, Chosen}
-use Rattle.std.proofs.lemmas.List.Sums.{count_by-le-length}
+use Rattle.zv_hash.proofs.Common.{◌==◌, bucket_of, ◌≡◌, ℕ, zero, suc, ◌+◌, ◌<◌, ◌≤◌, inl, inr, List, length, ap, sym, arith, refl, ◌∙◌, bucket_at, size}
+use Rattle.zv_hash.proofs.Common.{displacement, slot_at, sent_to, Fits, IsBefore, IsCandidate, IsEarlier, IsChoice, IsStuck, Chosen, count_by-le-length}
 use Rattle.zv_hash.proofs.Choices.{same_fits}
 use Rattle.zv_hash.proofs.Slots.{bucket_below, bucket_size}
 

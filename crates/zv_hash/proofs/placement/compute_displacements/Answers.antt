@@ -9,6 +9,6 @@ returns-clause-unstuck c _ = chosen_not_stuck c.in_ok-place_hashes.ensures.0
 
 pub returns-clause-permutation : goal.returns-clause-permutation
 returns-clause-permutation c =
-    let placed = c.in_ok-place_hashes.ensures.1 in
-    let len : c.in_ok-reverse_mapping.reverse_mapping.len ≡ length c.place_hashes.new.places = omega (arith, placed.len, c.in_ok-reverse_mapping.ensures.len) in
-    rw (len, take-append_seam) (placed_permutation placed)
+    let len : c.in_ok-reverse_mapping.reverse_mapping.len ≡ length c.place_hashes.new.places =
+    omega (arith, c.in_ok-place_hashes.ensures.1.len, c.in_ok-reverse_mapping.ensures.len) in
+    rw (len, take-append_seam) (placed_permutation c.in_ok-place_hashes.ensures.1)
