@@ -5,7 +5,8 @@ use Rattle.std.specs.List.{Contains, list_any, range_with_len, remove}
 use Rattle.std.specs.Prelude.{IsPermutation}
 use Rattle.std.proofs.lemmas.Cmp.{nat_eq_equiv}
 use Rattle.std.proofs.lemmas.List.Elements.{All-contains, All-push, Contains-append_cases}
-use Rattle.std.proofs.lemmas.List.FromFn.{length-range_with_len, get_or-range_with_len, map-range_with_len_more, length-map-range_with_len, get_or-map-range_with_len}
+use Rattle.std.proofs.lemmas.List.FromFn.{length-range_with_len, get_or-range_with_len, map-range_with_len_more, length-map-range_with_len}
+use Rattle.std.proofs.lemmas.List.FromFn.{get_or-map-range_with_len}
 use Rattle.std.proofs.lemmas.List.Sorted.{Contains-permutation, IsPermutation-more, IsPermutation-refl, IsPermutation-sym, length_permutation}
 use Rattle.std.proofs.lemmas.Map.Keys.{IsDistinct-from_apart, IsDistinct-push}
 use Rattle.std.proofs.lemmas.Map.Steps.{length-le_from_distinct_below}
@@ -56,5 +57,6 @@ placed_permutation {hs} {places = places} placed =
     let from = onto n (λ s. get_or places s 0) placed.within
     (λ i j less l same. let is : i ≡ j = placed.distinct i j (omega arith) l same in omega arith) q h in
     (from.0, omega (arith, from.1), get_or_default places from.0 q 0 (omega (arith, from.1)) ∙ from.2)) in
-    let none : length all.0 ≡ 0 = omega (arith, simp (length-append, length-range_with_len) at (length_permutation places (range_with_len 0 n ++ all.0) all.1)) in
+    let moved = length_permutation places (range_with_len 0 n ++ all.0) all.1 in
+    let none : length all.0 ≡ 0 = omega (arith, simp (length-append, length-range_with_len) at moved) in
     IsPermutation-sym places (range_with_len 0 n) (rw (nil_from_length all.0 none, append-nil) at all.1)

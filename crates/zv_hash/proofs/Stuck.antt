@@ -7,10 +7,6 @@ use Rattle.zv_hash.proofs.Slots.{bucket_below, bucket_size}
 transitive : (hs : List ℕ) (e f g : ℕ) → IsBefore hs e f → IsBefore hs f g → IsBefore hs e g
 transitive hs e f g h k = grind arith
 
--- of two buckets one is before the other, or they are the same
-same_turn : (hs : List ℕ) (f g : ℕ) → (IsBefore hs f g → ⊥) → (IsBefore hs g f → ⊥) → f ≡ g
-same_turn hs f g h k = grind arith
-
 -- of two displacements one is earlier, or they are the same
 apart : (d e : ℕ × ℕ) → (IsEarlier d e → ⊥) → (IsEarlier e d → ⊥) → d ≡ e
 apart d e h k =
@@ -75,4 +71,7 @@ later_not_stuck hs g h stuck later b =
 
 -- and one bucket alone is stuck
 pub one_stuck : (hs : List ℕ) (g h : ℕ) → IsStuck hs g → IsStuck hs h → g ≡ h
-one_stuck hs g h p q = same_turn hs g h (later_not_stuck hs g h p q) (later_not_stuck hs h g q p)
+one_stuck hs g h p q =
+    let not_before = later_not_stuck hs g h p q in
+    let not_after = later_not_stuck hs h g q p in
+    grind arith
