@@ -43,11 +43,8 @@ gathered xs (suc k) all =
       | inr there ↦
           let left : List ℕ = remove before.0 there.0 in
           let more : range_with_len 0 (suc k) ≡ range_with_len 0 k ++ k ∷ [] =
-          simp add-one at (simp map-id at (map-range_with_len_more (λ x. x) 0 k k (omega arith))) in (
-            left,
-            subst (λ l. IsPermutation xs (l ++ left)) (sym more)
-                (IsPermutation-more xs (range_with_len 0 k) before.0 there.0 k there.1 (sym there.2) before.1),
-          )
+          simp add-one at (simp map-id at (map-range_with_len_more (λ x. x) 0 k k (omega arith))) in
+          (left, subst (λ l. IsPermutation xs (l ++ left)) (sym more) (IsPermutation-more xs _ before.0 there.0 k there.1 (sym there.2) before.1))
     ]
 
 pub placed_permutation : {hs : List ℕ} {ds : List (ℕ × ℕ)} {places : List ℕ} → Placed hs ds places → IsPermutation (range_with_len 0 (length hs)) places

@@ -5,10 +5,10 @@ use Rattle.zv_hash.proofs.placement.place_all_of.Goals as goal
 pub loop-bucket-preserved : goal.loop-bucket-preserved
 loop-bucket-preserved c =
     let next : c.loop-bucket.bucket ≡ c.loop-bucket.bucket - 1 + 1 = omega arith in
-    let is = c.requires.sizes (c.loop-bucket.bucket - 1) (omega (arith, c.loop-bucket.invariant.within)) in
+    let old = c.loop-bucket.invariant in
     record {
-      within = omega (arith, c.loop-bucket.invariant.within);
-      filled = turn_passed (λ same. absurd (omega (arith, is, c.if-sizes-bucket.false))) (rw next at c.loop-bucket.invariant.filled);
+      within = omega (arith, old.within);
+      filled = turn_passed (λ same. absurd (omega (arith, old.within, c.requires.sizes (c.loop-bucket.bucket - 1)))) (rw next at old.filled);
     }
 
 pub place_bucket-requires-clause-filled : goal.place_bucket-requires-clause-filled
