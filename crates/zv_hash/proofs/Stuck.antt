@@ -53,7 +53,7 @@ module _ (hs : List ℕ) (g : ℕ) (ds es : List (ℕ × ℕ)) (one : (f : ℕ) 
   all_alike zero f large up = absurd (omega (arith, count_by-le-length (λ h. bucket_of (length hs) h == f) hs))
   all_alike (suc j) f large up = of_size (size hs f) (λ e more. all_alike j e (omega arith)) (length hs) f refl (omega arith) up
 
-  -- and no displacement that fits g in one table is one too many in the other
+  -- a bucket that nothing fits in one table has no choice in the other
   pub not_chosen : ((d : ℕ × ℕ) → IsCandidate (length hs) d → Fits hs ds g d → ⊥) → IsChoice hs es g → ⊥
   not_chosen none choice =
       none _ choice.candidate (same_fits
