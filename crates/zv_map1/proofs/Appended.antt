@@ -1,22 +1,8 @@
 -- A key that is above all keys of a map, and a pair at the end.
-use Rattle.std.proofs.Common.{◌≡◌, ℕ, ◌-◌, ◌<◌, ◌⊎◌, Bool, true, cond, List, [], ◌∷◌, ◌++◌, length, Option, Some, None, inl, inr}
-use Rattle.std.proofs.Common.{refl, sym, ◌∙◌, ap, arith}
-use Rattle.std.proofs.Math.Nat.{eq-or-lt_of_le}
-use Rattle.std.proofs.lemmas.List.{length-map}
-use Rattle.std.proofs.lemmas.List.Edits.{insert_end}
-use Rattle.std.proofs.lemmas.Map.Keys.{Less-from_sorted}
-use Rattle.std.proofs.lemmas.Option.{slice_get-get_or}
-use Rattle.std.specs.Cmp.{IsTotalOrder}
-use Rattle.std.specs.List.{slice_get}
-use Rattle.std.specs.Option.{option_map_or}
-use Rattle.std.specs.Ordering.{is_gt, is_lt, ordering_reverse}
-use Rattle.std.specs.declared.cmp.Ordering.{Ordering}
-use Rattle.std.specs.declared.cmp.Ordering.TheVariants.{Less, Equal, Greater}
-use Rattle.zv_ule.specs.Search.{IsGap, compared}
-use Rattle.zv_map.proofs.Ascents.{compared_at}
-use Rattle.zv_map.proofs.Places.{insert_entry_gap}
-use Rattle.zv_map1.specs.Appends.{appended, is_above}
-use Rattle.zv_map1.specs.Views.{Bytes, IsMap, Order, Pairs, insert_entry, keys_of, nth}
+use Rattle.zv_map1.proofs.Common.{◌≡◌, ℕ, ◌-◌, ◌<◌, ◌⊎◌, Bool, true, cond, List, [], ◌∷◌, ◌++◌, length, Option, Some, None, inl, inr, refl, sym, ◌∙◌, ap, arith}
+use Rattle.zv_map1.proofs.Common.{eq-or-lt_of_le, length-map, insert_end, Less-from_sorted, slice_get-get_or, IsTotalOrder, slice_get, option_map_or, is_gt}
+use Rattle.zv_map1.proofs.Common.{is_lt, ordering_reverse, Ordering, Less, Equal, Greater, IsGap, compared, compared_at, insert_entry_gap, appended, is_above}
+use Rattle.zv_map1.proofs.Common.{Bytes, IsMap, Order, Pairs, insert_entry, keys_of, nth}
 
 less_of : (o : Ordering) → is_lt o ≡ true → o ≡ Less
 less_of Less e = refl

@@ -1,17 +1,9 @@
 -- Maps that are made by insertions, one after another, and the laws of maps.
-use Rattle.std.proofs.Common.{◌≡◌, ℕ, ◌+◌, ◌<◌, ◌&&◌, cond, List, [], ◌∷◌, ◌++◌, length, reverse, drop, get_or, Option, Some, None}
-use Rattle.std.proofs.Common.{append_assoc, refl, sym, ◌∙◌, ap}
-use Rattle.std.proofs.lemmas.Cmp.{tied_itself, eq_by_cmp_equiv}
-use Rattle.std.proofs.lemmas.List.{append-nil, drop_more, reverse-append}
-use Rattle.std.specs.Cmp.{IsTotalOrder}
-use Rattle.std.specs.Ordering.{is_eq}
-use Rattle.std.specs.declared.cmp.Ordering.{Ordering}
-use Rattle.zv_map.proofs.Places.{IsMap-insert_entry, look_up-insert_entry, look_up-without_key, maps_alike}
-use Rattle.zv_map1.specs.Building.{all_fit, insert_all, written}
-use Rattle.zv_map1.specs.Fits.{Rule, fits}
-use Rattle.zv_map1.specs.Laws.{AllIsMap, AppendInserts, FoundAlike, InsertIsFound, InsertLeavesOthers, LastIsKept, RemoveIsGone}
-use Rattle.zv_map1.specs.Laws.{RemoveLeavesOthers}
-use Rattle.zv_map1.specs.Views.{Bytes, IsElementOf, IsMap, Order, Pairs, insert_entry, look_up}
+use Rattle.zv_map1.proofs.Common.{◌≡◌, ℕ, ◌+◌, ◌<◌, ◌&&◌, cond, List, [], ◌∷◌, ◌++◌, length, reverse, drop, get_or, Option, Some, None, append_assoc, refl, sym}
+use Rattle.zv_map1.proofs.Common.{◌∙◌, ap, tied_itself, eq_by_cmp_equiv, append-nil, drop_more, reverse-append, IsTotalOrder, is_eq, Ordering}
+use Rattle.zv_map1.proofs.Common.{IsMap-insert_entry, look_up-insert_entry, look_up-without_key, maps_alike, all_fit, insert_all, written, Rule, fits, AllIsMap}
+use Rattle.zv_map1.proofs.Common.{AppendInserts, FoundAlike, InsertIsFound, InsertLeavesOthers, LastIsKept, RemoveIsGone, RemoveLeavesOthers, Bytes}
+use Rattle.zv_map1.proofs.Common.{IsElementOf, IsMap, Order, Pairs, insert_entry, look_up}
 use Rattle.zv_map1.proofs.Appended.{appended_is, gap_at_end}
 use Rattle.zv_map1.proofs.Zipped.{none_ascends}
 

@@ -1,23 +1,9 @@
 -- What a search of a map's keys says of a look-up.
-use Rattle.std.proofs.Common.{◌≡◌, ℕ, ◌&&◌, Bool, List, [], length, map, Option, Some, None, Result, Ok, Err, is_ok, is_some, refl, sym, ◌∙◌, ap, subst, arith}
-use Rattle.std.proofs.lemmas.Bool.{and_parts}
-use Rattle.std.proofs.lemmas.List.{length-map}
-use Rattle.std.proofs.lemmas.Option.{slice_get-get_or}
-use Rattle.std.specs.Cmp.{IsTotalOrder}
-use Rattle.std.specs.Fn.{Mut, ComputesKey}
-use Rattle.std.specs.List.Sorted.{IsSearchInRange}
-use Rattle.std.specs.Result.{MatchResult}
-use Rattle.std.specs.declared.cmp.Ordering.{Ordering}
-use Rattle.zv_ule.specs.Search.{AnsweredEqual, Found, IsGap, compared}
-use Rattle.zv_map.specs.Maps.{IsAt}
-use Rattle.zv_map.specs.Reserved.{IsTaken}
-use Rattle.zv_map.proofs.Places.{at_within, insert_entry_at, look_up_at, look_up_gap, rank_at}
-use Rattle.zv_map1.specs.Fits.{Rule, fits, pair_fits}
-use Rattle.zv_map.specs.declared.error.MapError.{MapError}
-use Rattle.zv_map1.specs.Outcomes.{Inserts}
-use Rattle.zv_map1.specs.Searches.{IsFoundBy, value_found}
-use Rattle.zv_map1.specs.Views.{Bytes, Map1, Order, Pairs, insert_entry, keys_of, look_up, nth, set_value_at, values_of}
-use denote.Ref.{Bor}
+use Rattle.zv_map1.proofs.Common.{◌≡◌, ℕ, ◌&&◌, Bool, List, [], length, map, Option, Some, None, Result, Ok, Err, is_ok, is_some, refl, sym, ◌∙◌, ap, subst}
+use Rattle.zv_map1.proofs.Common.{arith, and_parts, length-map, slice_get-get_or, IsTotalOrder, Mut, ComputesKey, IsSearchInRange, MatchResult, Ordering}
+use Rattle.zv_map1.proofs.Common.{AnsweredEqual, Found, IsGap, compared, IsAt, IsTaken, at_within, insert_entry_at, look_up_at, look_up_gap, rank_at, Rule}
+use Rattle.zv_map1.proofs.Common.{fits, pair_fits, MapError, Inserts, IsFoundBy, value_found, Bytes, Map1, Order, Pairs, insert_entry, keys_of, look_up, nth}
+use Rattle.zv_map1.proofs.Common.{set_value_at, values_of, Bor}
 
 module _ {order : Order} (total : IsTotalOrder order) (k : Bytes) (m : Pairs) where
   -- what the key has is the value at its place

@@ -1,11 +1,6 @@
 -- What a refused change leaves of a map.
-use Rattle.std.proofs.Common.{◌≡◌, Result, Ok, Err, IfErr, OnErr, refl, sym, subst, arith}
-use Rattle.std.proofs.lemmas.Result.{IfErr-weaker}
-use Rattle.zv_map.specs.declared.error.MapError.{MapError}
-use Rattle.zv_map.specs.declared.error.MapError.TheVariants.{TooLarge, Memory}
-use Rattle.zv_map1.specs.Outcomes.{IsLeftBy}
-use Rattle.zv_map1.specs.Room.{IsSameMap}
-use Rattle.zv_map1.specs.Views.{Map1}
+use Rattle.zv_map1.proofs.Common.{◌≡◌, Result, Ok, Err, IfErr, OnErr, refl, sym, subst, arith, IfErr-weaker, MapError, TooLarge, Memory, IsLeftBy, IsSameMap}
+use Rattle.zv_map1.proofs.Common.{Map1}
 
 pub same_map : (m : Map1) → IsSameMap m m
 same_map m = record {

@@ -1,15 +1,8 @@
 -- Two lists as the pairs of a map: what is at a place, and what a change at a place leaves.
-use Rattle.std.proofs.Common.{◌≡◌, ℕ, zero, suc, ◌<◌, ◌≤◌, Bool, IsTrue, List, [], ◌∷◌, length, set, zip, refl, sym, ◌∙◌, ap, subst, arith}
-use Rattle.std.proofs.lemmas.List.{length-map, length-set}
-use Rattle.std.proofs.lemmas.List.Edits.{length-insert, length-remove}
-use Rattle.std.proofs.lemmas.Slice.Zip.{firsts-zip, length-zip, seconds-zip}
-use Rattle.std.specs.Cmp.{IsTotalOrder}
-use Rattle.std.specs.List.{insert, remove}
-use Rattle.std.specs.List.Sorted.{IsStrictlySortedBy}
-use Rattle.zv_ule.specs.Search.{IsGap, compared}
-use Rattle.zv_map.specs.Maps.{IsAt}
-use Rattle.zv_map.proofs.Places.{IsMap-insert_entry, IsMap-without_key, insert_entry_gap, own_place, without_key_at}
-use Rattle.zv_map1.specs.Views.{AreColumns, Bytes, IsMap, Map1, Order, Pairs, Vector, insert_entry, keys_of, nth, set_value_at, values_of}
+use Rattle.zv_map1.proofs.Common.{◌≡◌, ℕ, zero, suc, ◌<◌, ◌≤◌, Bool, IsTrue, List, [], ◌∷◌, length, set, zip, refl, sym, ◌∙◌, ap, subst, arith, length-map}
+use Rattle.zv_map1.proofs.Common.{length-set, length-insert, length-remove, firsts-zip, length-zip, seconds-zip, IsTotalOrder, insert, remove}
+use Rattle.zv_map1.proofs.Common.{IsStrictlySortedBy, IsGap, compared, IsAt, IsMap-insert_entry, IsMap-without_key, insert_entry_gap, own_place, without_key_at}
+use Rattle.zv_map1.proofs.Common.{AreColumns, Bytes, IsMap, Map1, Order, Pairs, Vector, insert_entry, keys_of, nth, set_value_at, values_of}
 
 -- ---- changes of both lists
 

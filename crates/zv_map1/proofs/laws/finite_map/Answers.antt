@@ -1,4 +1,4 @@
-use Rattle.zv_map.proofs.Places.{IsMap-insert_entry, IsMap-without_key}
+use Rattle.zv_map1.proofs.Common.{IsMap-insert_entry, IsMap-without_key}
 use Rattle.zv_map1.proofs.Building.{found_alike, insert_is_found, insert_leaves_others, remove_is_gone, remove_leaves_others}
 use Rattle.zv_map1.proofs.laws.finite_map.Goals as goal
 

@@ -1,4 +1,4 @@
-use Rattle.zv_map.proofs.Places.{placed}
+use Rattle.zv_map1.proofs.Common.{placed}
 use Rattle.zv_map1.proofs.search.place_of.Goals as goal
 
 pub returns : goal.returns

@@ -1,9 +1,4 @@
-use Rattle.std.proofs.Common.{◌≡◌, ◌∙◌, List, slice_range, sym, subst}
-use Rattle.std.proofs.lemmas.List.{length-map}
-use Rattle.std.specs.declared.cmp.Ordering.{Ordering}
-use Rattle.zv_map.proofs.Places.{placed}
-use Rattle.zv_map.proofs.Ranges.{range_all}
-use Rattle.zv_ule.specs.Search.{Found, compared}
+use Rattle.zv_map1.proofs.Common.{◌≡◌, ◌∙◌, List, slice_range, sym, subst, length-map, Ordering, placed, range_all, Found, compared}
 use Rattle.zv_map1.proofs.search.place_of_counted.Goals as goal
 
 pub returns-clause-place : goal.returns-clause-place

@@ -1,11 +1,4 @@
-use Rattle.std.proofs.Common.{◌∙◌, List, Ok, Err, None, refl, sym, ap}
-use Rattle.std.specs.List.{slice_get}
-use Rattle.std.specs.Option.{option_map}
-use Rattle.zv_ule.specs.Views.{element_of}
-use Rattle.std.proofs.lemmas.Slice.Zip.{firsts-zip, seconds-zip}
-use Rattle.zv_map.specs.Views.{list_of}
-use Rattle.zv_map1.specs.Borrowed.{pairs_of}
-use Rattle.zv_map1.specs.Views.{Bytes}
+use Rattle.zv_map1.proofs.Common.{◌∙◌, List, Ok, Err, None, refl, sym, ap, slice_get, option_map, element_of, firsts-zip, seconds-zip, list_of, pairs_of, Bytes}
 use Rattle.zv_map1.proofs.Found.{found_by}
 use Rattle.zv_map1.proofs.borrowed.ZeroMapBorrowed.get_by.Goals as goal
 

@@ -1,10 +1,4 @@
-use Rattle.std.proofs.Common.{◌∙◌, sym, ap, List}
-use Rattle.std.proofs.lemmas.Slice.Zip.{seconds-zip}
-use Rattle.std.specs.List.{slice_get}
-use Rattle.zv_map.proofs.Places.{look_up_at, look_up_gap}
-use Rattle.zv_map.specs.Views.{list_of}
-use Rattle.zv_map1.specs.Borrowed.{pairs_of}
-use Rattle.zv_map1.specs.Views.{Bytes}
+use Rattle.zv_map1.proofs.Common.{◌∙◌, sym, ap, List, seconds-zip, slice_get, look_up_at, look_up_gap, list_of, pairs_of, Bytes}
 use Rattle.zv_map1.proofs.borrowed.ZeroMapBorrowed.get_counted.Goals as goal
 
 pub returns-in_default-clause-value : goal.returns-in_default-clause-value

@@ -1,5 +1,4 @@
-use Rattle.std.proofs.Common.{◌∙◌, map, ap}
-use Rattle.zv_map1.specs.Views.{Pairs}
+use Rattle.zv_map1.proofs.Common.{◌∙◌, map, ap, Pairs}
 use Rattle.zv_map1.proofs.borrowed.ZeroMapBorrowed.iter_copied.Goals as goal
 
 pub returns : goal.returns

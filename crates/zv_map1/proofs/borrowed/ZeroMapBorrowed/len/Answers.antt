@@ -1,6 +1,4 @@
-use Rattle.std.proofs.Common.{arith}
-use Rattle.std.proofs.lemmas.Slice.Zip.{length-zip}
-use Rattle.zv_map.specs.Views.{list_of}
+use Rattle.zv_map1.proofs.Common.{arith, length-zip, list_of}
 use Rattle.zv_map1.proofs.borrowed.ZeroMapBorrowed.len.Goals as goal
 
 pub returns : goal.returns

@@ -1,4 +1,4 @@
-use Rattle.std.proofs.Common.{length, arith, ap}
+use Rattle.zv_map1.proofs.Common.{length, arith, ap}
 use Rattle.zv_map1.proofs.Zipped.{none_ascends}
 use Rattle.zv_map1.proofs.borrowed.ZeroMapBorrowed.new.Goals as goal
 

@@ -1,7 +1,4 @@
-use Rattle.std.proofs.Common.{◌≡◌, length, sym, arith}
-use Rattle.std.proofs.lemmas.Slice.Zip.{firsts-zip, length-zip}
-use Rattle.zv_map.specs.Views.{list_of}
-use Rattle.zv_map1.specs.Borrowed.{pairs_of}
+use Rattle.zv_map1.proofs.Common.{◌≡◌, length, sym, arith, firsts-zip, length-zip, list_of, pairs_of}
 use Rattle.zv_map1.proofs.borrowed.ZeroMapBorrowed.place_counted.Goals as goal
 
 pub returns-clause-place : goal.returns-clause-place

@@ -1,5 +1,4 @@
-use Rattle.std.proofs.Common.{◌≡◌, ◌∙◌, true, false, sym}
-use Rattle.zv_map.specs.Views.{list_of}
+use Rattle.zv_map1.proofs.Common.{◌≡◌, ◌∙◌, true, false, sym, list_of}
 use Rattle.zv_map1.proofs.Zipped.{keys_same, values_same, zip_same}
 use Rattle.zv_map1.proofs.borrowed.ZeroMapBorrowed.same.Goals as goal
 

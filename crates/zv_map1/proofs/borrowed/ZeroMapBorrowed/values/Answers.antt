@@ -1,6 +1,4 @@
-use Rattle.std.proofs.Common.{sym}
-use Rattle.std.proofs.lemmas.Slice.Zip.{seconds-zip}
-use Rattle.zv_map.specs.Views.{list_of}
+use Rattle.zv_map1.proofs.Common.{sym, seconds-zip, list_of}
 use Rattle.zv_map1.proofs.borrowed.ZeroMapBorrowed.values.Goals as goal
 
 pub returns-clause-list : goal.returns-clause-list

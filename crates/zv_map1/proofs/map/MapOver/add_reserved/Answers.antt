@@ -1,8 +1,4 @@
-use Rattle.std.proofs.Common.{List, subst, arith}
-use Rattle.zv_ule.specs.Search.{IsGap, compared}
-use Rattle.zv_map.proofs.Places.{gap_within}
-use Rattle.zv_map1.specs.Views.{Bytes}
-use Rattle.zv_map1.specs.Fits.{rule_of}
+use Rattle.zv_map1.proofs.Common.{List, subst, arith, IsGap, compared, gap_within, Bytes, rule_of}
 use Rattle.zv_map1.proofs.Found.{key_taken, value_taken}
 use Rattle.zv_map1.proofs.Zipped.{columns_with, count_is, keys_are, pairs_inserted, values_are, values_count_is}
 use Rattle.zv_map1.proofs.map.MapOver.add_reserved.Goals as goal

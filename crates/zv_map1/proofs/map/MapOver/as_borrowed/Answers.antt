@@ -1,6 +1,4 @@
-use Rattle.std.proofs.Common.{◌∙◌, sym, ap, subst, length, arith}
-use Rattle.std.specs.List.Sorted.{IsStrictlySortedBy}
-use Rattle.zv_map1.specs.Views.{Map1}
+use Rattle.zv_map1.proofs.Common.{◌∙◌, sym, ap, subst, length, arith, IsStrictlySortedBy, Map1}
 use Rattle.zv_map1.proofs.map.MapOver.as_borrowed.Goals as goal
 
 pub of_valid-requires-clause-count : goal.of_valid-requires-clause-count

@@ -1,4 +1,4 @@
-use Rattle.std.proofs.Common.{refl}
+use Rattle.zv_map1.proofs.Common.{refl}
 use Rattle.zv_map1.proofs.Zipped.{no_columns}
 use Rattle.zv_map1.proofs.map.MapOver.clear.Goals as goal
 

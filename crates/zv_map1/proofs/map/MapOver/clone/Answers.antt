@@ -1,5 +1,4 @@
-use Rattle.std.proofs.Common.{ap}
-use Rattle.zv_map1.specs.Views.{Map1}
+use Rattle.zv_map1.proofs.Common.{ap, Map1}
 use Rattle.zv_map1.proofs.Zipped.{same_columns}
 use Rattle.zv_map1.proofs.map.MapOver.clone.Goals as goal
 

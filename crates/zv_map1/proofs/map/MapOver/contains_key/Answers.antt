@@ -1,4 +1,4 @@
-use Rattle.std.proofs.Common.{◌∙◌}
+use Rattle.zv_map1.proofs.Common.{◌∙◌}
 use Rattle.zv_map1.proofs.Found.{is_there}
 use Rattle.zv_map1.proofs.map.MapOver.contains_key.Goals as goal
 

@@ -1,5 +1,4 @@
-use Rattle.std.proofs.Common.{length, sym, ap, arith}
-use Rattle.zv_map.proofs.Ascents.{sorted_from_ascends}
+use Rattle.zv_map1.proofs.Common.{length, sym, ap, arith, sorted_from_ascends}
 use Rattle.zv_map1.proofs.map.MapOver.from_vecs.Goals as goal
 
 pub invariant_of-result : goal.invariant_of-result

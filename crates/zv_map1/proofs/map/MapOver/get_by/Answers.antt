@@ -1,9 +1,5 @@
-use Rattle.std.proofs.Common.{◌∙◌, List, Ok, Err, None, refl, sym, ap}
-use Rattle.std.specs.List.{slice_get}
-use Rattle.std.specs.Option.{option_map}
-use Rattle.zv_ule.specs.Views.{element_of}
+use Rattle.zv_map1.proofs.Common.{◌∙◌, List, Ok, Err, None, refl, sym, ap, slice_get, option_map, element_of, Bytes}
 use Rattle.zv_map1.proofs.Zipped.{keys_are, values_are}
-use Rattle.zv_map1.specs.Views.{Bytes}
 use Rattle.zv_map1.proofs.Found.{found_by}
 use Rattle.zv_map1.proofs.map.MapOver.get_by.Goals as goal
 

@@ -1,7 +1,4 @@
-use Rattle.std.proofs.Common.{◌∙◌, sym, ap, List}
-use Rattle.std.specs.List.{slice_get}
-use Rattle.zv_map.proofs.Places.{look_up_at, look_up_gap}
-use Rattle.zv_map1.specs.Views.{Bytes}
+use Rattle.zv_map1.proofs.Common.{◌∙◌, sym, ap, List, slice_get, look_up_at, look_up_gap, Bytes}
 use Rattle.zv_map1.proofs.Zipped.{values_are}
 use Rattle.zv_map1.proofs.map.MapOver.get_counted.Goals as goal
 

@@ -1,6 +1,4 @@
-use Rattle.std.proofs.Common.{subst, sym, ◌∙◌}
-use Rattle.std.specs.List.{AllByRecursion}
-use Rattle.zv_map1.specs.Views.{IsElementOf, IsMap, Map1}
+use Rattle.zv_map1.proofs.Common.{subst, sym, ◌∙◌, AllByRecursion, IsElementOf, IsMap, Map1}
 use Rattle.zv_map1.proofs.Zipped.{ascend, keys_are}
 use Rattle.zv_map1.proofs.map.MapOver.in_order.Goals as goal
 

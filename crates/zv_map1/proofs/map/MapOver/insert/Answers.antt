@@ -1,4 +1,4 @@
-use Rattle.zv_map1.specs.Fits.{rule_of}
+use Rattle.zv_map1.proofs.Common.{rule_of}
 use Rattle.zv_map1.proofs.Found.{inserts_at, inserts_gap}
 use Rattle.zv_map1.proofs.Left.{same_after, unchanged_after}
 use Rattle.zv_map1.proofs.map.MapOver.insert.Goals as goal

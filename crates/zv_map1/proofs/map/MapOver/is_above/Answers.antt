@@ -1,10 +1,6 @@
-use Rattle.std.proofs.Common.{◌∙◌, length, refl, sym, ap, subst, arith}
-use Rattle.std.specs.Ordering.{is_gt}
-use Rattle.std.specs.declared.cmp.Ordering.{Ordering}
-use Rattle.zv_ule.specs.Views.{element_of}
+use Rattle.zv_map1.proofs.Common.{◌∙◌, length, refl, sym, ap, subst, arith, is_gt, Ordering, element_of, IsMap, Map1}
 use Rattle.zv_map1.proofs.Appended.{above_last, above_none, gap_at_end}
 use Rattle.zv_map1.proofs.Zipped.{ascend, count_is, keys_are}
-use Rattle.zv_map1.specs.Views.{IsMap, Map1}
 use Rattle.zv_map1.proofs.map.MapOver.is_above.Goals as goal
 
 pub returns-in-Some-clause-above : goal.returns-in-Some-clause-above

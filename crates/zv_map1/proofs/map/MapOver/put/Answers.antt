@@ -1,5 +1,4 @@
-use Rattle.std.proofs.Common.{length, refl}
-use Rattle.zv_map1.specs.Fits.{rule_of}
+use Rattle.zv_map1.proofs.Common.{length, refl, rule_of}
 use Rattle.zv_map1.proofs.Found.{inserts_gap}
 use Rattle.zv_map1.proofs.map.MapOver.put.Goals as goal
 

@@ -1,5 +1,4 @@
-use Rattle.std.proofs.Common.{◌∙◌, sym, ap, Some}
-use Rattle.zv_map.proofs.Places.{look_up_gap, without_key_at, without_key_gap}
+use Rattle.zv_map1.proofs.Common.{◌∙◌, sym, ap, Some, look_up_gap, without_key_at, without_key_gap}
 use Rattle.zv_map1.proofs.Found.{value_at}
 use Rattle.zv_map1.proofs.map.MapOver.remove.Goals as goal
 

@@ -1,4 +1,4 @@
-use Rattle.std.proofs.Common.{arith}
+use Rattle.zv_map1.proofs.Common.{arith}
 use Rattle.zv_map1.proofs.Zipped.{columns_without, count_is, pairs_removed, values_count_is}
 use Rattle.zv_map1.proofs.map.MapOver.remove_at.Goals as goal
 

@@ -1,6 +1,4 @@
-use Rattle.std.proofs.Common.{◌∙◌, List, length, refl, sym, ap, subst, arith, rules, Some}
-use Rattle.zv_map.specs.Refusals.{TooLargeUnless}
-use Rattle.zv_map1.specs.Views.{Bytes, nth}
+use Rattle.zv_map1.proofs.Common.{◌∙◌, List, length, refl, sym, ap, subst, arith, rules, Some, TooLargeUnless, Bytes, nth}
 use Rattle.zv_map1.proofs.Zipped.{columns_set, pairs_set, values_are, values_count_is}
 use Rattle.zv_map1.proofs.map.MapOver.replace_value.Goals as goal
 

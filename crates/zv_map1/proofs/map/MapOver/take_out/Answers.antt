@@ -1,5 +1,4 @@
-use Rattle.std.proofs.Common.{◌∙◌, List, sym, ap, arith}
-use Rattle.zv_map1.specs.Views.{Bytes, nth}
+use Rattle.zv_map1.proofs.Common.{◌∙◌, List, sym, ap, arith, Bytes, nth}
 use Rattle.zv_map1.proofs.Zipped.{values_are, values_count_is}
 use Rattle.zv_map1.proofs.map.MapOver.take_out.Goals as goal
 

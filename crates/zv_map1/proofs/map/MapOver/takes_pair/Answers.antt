@@ -1,5 +1,4 @@
-use Rattle.std.proofs.Common.{◌≡◌, ◌&&◌, ◌∙◌, Bool, ℕ, length, true, false, sym, ap}
-use Rattle.zv_map1.specs.Fits.{rule_of}
+use Rattle.zv_map1.proofs.Common.{◌≡◌, ◌&&◌, ◌∙◌, Bool, ℕ, length, true, false, sym, ap, rule_of}
 use Rattle.zv_map1.proofs.Found.{pair_fits_in}
 use Rattle.zv_map1.proofs.Zipped.{keys_are, values_are}
 use Rattle.zv_map1.proofs.map.MapOver.takes_pair.Goals as goal

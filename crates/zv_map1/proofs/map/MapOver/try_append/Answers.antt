@@ -1,4 +1,4 @@
-use Rattle.std.proofs.Common.{◌∙◌, refl, sym}
+use Rattle.zv_map1.proofs.Common.{◌∙◌, refl, sym}
 use Rattle.zv_map1.proofs.Appended.{appended_is}
 use Rattle.zv_map1.proofs.map.MapOver.try_append.Goals as goal
 

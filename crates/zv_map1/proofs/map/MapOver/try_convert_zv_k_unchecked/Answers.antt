@@ -1,5 +1,4 @@
-use Rattle.std.proofs.Common.{◌∙◌, sym, ap}
-use Rattle.zv_map1.specs.Views.{Map1}
+use Rattle.zv_map1.proofs.Common.{◌∙◌, sym, ap, Map1}
 use Rattle.zv_map1.proofs.Zipped.{columns_as}
 use Rattle.zv_map1.proofs.map.MapOver.try_convert_zv_k_unchecked.Goals as goal
 

@@ -1,7 +1,4 @@
-use Rattle.std.proofs.Common.{◌∙◌, ◌&&◌, Bool, drop, ap, sym, ◌+◌}
-use Rattle.zv_map1.specs.Building.{all_fit, written}
-use Rattle.zv_map1.specs.Fits.{rule_of}
-use Rattle.zv_map1.specs.Views.{insert_entry}
+use Rattle.zv_map1.proofs.Common.{◌∙◌, ◌&&◌, Bool, drop, ap, sym, ◌+◌, all_fit, written, rule_of, insert_entry}
 use Rattle.zv_map1.proofs.Building.{fit_first, insert_first}
 use Rattle.zv_map1.proofs.map.MapOver.try_from_pairs.Goals as goal
 

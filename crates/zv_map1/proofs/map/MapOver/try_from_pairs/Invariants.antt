@@ -1,6 +1,4 @@
-use Rattle.std.proofs.Common.{◌≡◌, [], drop}
-use Rattle.zv_map1.specs.Building.{all_fit, insert_all, written}
-use Rattle.zv_map1.specs.Fits.{rule_of}
+use Rattle.zv_map1.proofs.Common.{◌≡◌, [], drop, all_fit, insert_all, written, rule_of}
 use Rattle.zv_map1.proofs.map.MapOver.try_from_pairs.Given as goal
 
 abbrev pub invariant-loop-pair : goal.invariant-loop-pair

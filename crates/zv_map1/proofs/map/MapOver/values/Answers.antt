@@ -1,4 +1,4 @@
-use Rattle.std.proofs.Common.{◌∙◌, sym}
+use Rattle.zv_map1.proofs.Common.{◌∙◌, sym}
 use Rattle.zv_map1.proofs.Zipped.{values_are}
 use Rattle.zv_map1.proofs.map.MapOver.values.Goals as goal
 
