@@ -1,8 +1,8 @@
 -- A key that is above all keys of a map, and a pair at the end.
-use Rattle.zv_map1.proofs.Common.{◌≡◌, ℕ, ◌-◌, ◌<◌, ◌⊎◌, Bool, true, cond, List, [], ◌∷◌, ◌++◌, length, Option, Some, None, inl, inr, refl, sym, ◌∙◌, ap, arith}
-use Rattle.zv_map1.proofs.Common.{eq-or-lt_of_le, length-map, insert_end, Less-from_sorted, slice_get-get_or, IsTotalOrder, slice_get, option_map_or, is_gt}
-use Rattle.zv_map1.proofs.Common.{is_lt, ordering_reverse, Ordering, Less, Equal, Greater, IsGap, compared, compared_at, insert_entry_gap, appended, is_above}
-use Rattle.zv_map1.proofs.Common.{Bytes, IsMap, Order, Pairs, insert_entry, keys_of, nth}
+use Rattle.zv_map1.proofs.Common.{Ordering, is_lt, ◌≡◌, true, Less, refl, Equal, Greater, is_gt, ordering_reverse, Order, IsTotalOrder, Pairs, Bytes, IsMap}
+use Rattle.zv_map1.proofs.Common.{is_above, length, keys_of, length-map, ◌<◌, nth, ◌-◌, slice_get, Some, slice_get-get_or, [], arith, sym, ap, Option}
+use Rattle.zv_map1.proofs.Common.{option_map_or, ◌∙◌, ℕ, ◌⊎◌, inl, inr, Less-from_sorted, eq-or-lt_of_le, IsGap, compared, compared_at, insert_entry, appended}
+use Rattle.zv_map1.proofs.Common.{insert_entry_gap, insert_end, Bool, cond, ◌++◌, ◌∷◌}
 
 less_of : (o : Ordering) → is_lt o ≡ true → o ≡ Less
 less_of Less e = refl
@@ -15,18 +15,9 @@ greater_of Equal = refl
 greater_of Greater = refl
 
 module _ {order : Order} (total : IsTotalOrder order) (m : Pairs) (k : Bytes) where
-  -- the answer of one comparison with the last key
-  pub above_last : (ks : List Bytes) (n : ℕ) (last : Bytes) → keys_of m ≡ ks → n ≡ length m - 1 → Some last ≡ slice_get ks n →
-      is_gt (order k last) ≡ is_above order m k
-  above_last ks n last p q e =
-      let there : slice_get (keys_of m) (length m - 1) ≡ Some last = rw (p, ← q) (sym e) in
-      let lower : is_gt (order k last) ≡ is_lt (order last k) = ap (λ (o : Ordering). is_gt o) (total.antisymm k last) ∙ greater_of (order last k) in
-      lower ∙ sym (ap (λ (o : Option Bytes). option_map_or (λ x. is_lt (order x k)) o true) there)
-
-  pub above_none : (ks : List Bytes) (n : ℕ) → keys_of m ≡ ks → n ≡ length m - 1 → None ≡ slice_get ks n → true ≡ is_above order m k
-  above_none ks n p q e =
-      let there : slice_get (keys_of m) (length m - 1) ≡ None = rw (p, ← q) (sym e) in
-      sym (ap (λ (o : Option Bytes). option_map_or (λ x. is_lt (order x k)) o true) there)
+  -- one comparison, from either side
+  pub turned : (last : Bytes) → is_gt (order k last) ≡ is_lt (order last k)
+  turned last = rw (total.antisymm k last) (greater_of (order last k))
 
   module _ (up : IsMap order m) (above : is_above order m k ≡ true) where
     count : length (keys_of m) ≡ length m
@@ -50,11 +41,11 @@ module _ {order : Order} (total : IsTotalOrder order) (m : Pairs) (k : Bytes) wh
         by (eq-or-lt_of_le (omega (arith, h)))
 
     -- it goes to the end
-    pub gap_at_end : (n : ℕ) → n ≡ length m → IsGap (compared order (keys_of m) k) n
-    gap_at_end n e = record {
-      within = omega (arith, e, count, length-map (keys_of m) (λ x. order x k));
-      less = λ j h. compared_at order k (keys_of m) j (omega (arith, h, e, count)) ∙ all_less j (omega (arith, h, e));
-      greater = λ j l h. absurd (omega (arith, e, l, h, count, length-map (keys_of m) (λ x. order x k)));
+    pub gap_at_end : IsGap (compared order (keys_of m) k) (length m)
+    gap_at_end = record {
+      within = omega (arith, count, length-map (keys_of m) (λ x. order x k));
+      less = λ j h. compared_at order k (keys_of m) j (omega (arith, h, count)) ∙ all_less j h;
+      greater = λ j l h. absurd (omega (arith, l, h, count, length-map (keys_of m) (λ x. order x k)));
     }
 
   -- and the pair is put there

@@ -23,6 +23,8 @@ pub use Rattle.std.specs.declared.cmp.Ordering.{Ordering}
 pub use Rattle.std.specs.declared.cmp.Ordering.TheVariants.{Less, Equal, Greater}
 pub use Rattle.zv_ule.specs.Search.{compared, IsGap, Found, AnsweredEqual}
 pub use Rattle.zv_ule.specs.Views.{element_of}
+pub use Rattle.zv_ule.specs.declared.kind.ZvKind.{Ghosts as KindGhosts}
+pub use Rattle.zv_ule.specs.declared.kind.ZvOrd.{Ghosts as OrdGhosts}
 pub use Rattle.zv_map.proofs.Ascents.{compared_at, sorted_from_ascends}
 pub use Rattle.zv_map.proofs.Places.{look_up_gap, look_up_at, IsMap-insert_entry, IsMap-without_key, insert_entry_gap, without_key_at, placed, at_within}
 pub use Rattle.zv_map.proofs.Places.{insert_entry_at, rank_at, own_place, look_up-insert_entry, look_up-without_key, maps_alike, gap_within, without_key_gap}
@@ -43,4 +45,5 @@ pub use Rattle.zv_map1.specs.Room.{IsSameMap}
 pub use Rattle.zv_map1.specs.Searches.{IsFoundBy, value_found}
 pub use Rattle.zv_map1.specs.Views.{Bytes, Map1, Pairs, insert_entry, nth, IsMap, Order, keys_of, look_up, set_value_at, values_of, IsElementOf, AreColumns}
 pub use Rattle.zv_map1.specs.Views.{Vector}
+pub use Rattle.zv_map1.specs.declared.borrowed.ZeroMapBorrowed.{ZeroMapBorrowed}
 pub use denote.Ref.{Bor}

@@ -1,5 +1,6 @@
-use Rattle.zv_map1.proofs.Common.{sym, seconds-zip, list_of}
+use Rattle.zv_map1.proofs.Common.{sym}
+use Rattle.zv_map1.proofs.Zipped.{values_in}
 use Rattle.zv_map1.proofs.borrowed.ZeroMapBorrowed.values.Goals as goal
 
 pub returns-clause-list : goal.returns-clause-list
-returns-clause-list g c = let b = c.args.self in sym (seconds-zip (list_of b.keys) (list_of b.values) (sym b.count))
+returns-clause-list g c = sym (values_in c.args.self)

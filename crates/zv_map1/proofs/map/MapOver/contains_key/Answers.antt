@@ -3,5 +3,4 @@ use Rattle.zv_map1.proofs.Found.{is_there}
 use Rattle.zv_map1.proofs.map.MapOver.contains_key.Goals as goal
 
 pub returns : goal.returns
-returns g c =
-    c.is_ok.ensures.value ∙ is_there g.met.K.ZvOrd.total (g.Q.ZvArg.bytes c.args.key.now) c.args.self.now.pairs c.place.result c.place.ensures
+returns g c = c.is_ok.ensures.value ∙ is_there g.met.K.ZvOrd.total _ _ _ c.place.ensures
