@@ -1,8 +1,7 @@
 -- A key that is above all keys of a map, and a pair at the end.
-use Rattle.zv_map1.proofs.Common.{Ordering, is_lt, ◌≡◌, true, Less, refl, Equal, Greater, is_gt, ordering_reverse, Order, IsTotalOrder, Pairs, Bytes, IsMap}
-use Rattle.zv_map1.proofs.Common.{is_above, length, keys_of, length-map, ◌<◌, nth, ◌-◌, slice_get, Some, slice_get-get_or, [], arith, sym, ap, Option}
-use Rattle.zv_map1.proofs.Common.{option_map_or, ◌∙◌, ℕ, ◌⊎◌, inl, inr, Less-from_sorted, eq-or-lt_of_le, IsGap, compared, compared_at, insert_entry, appended}
-use Rattle.zv_map1.proofs.Common.{insert_entry_gap, insert_end, Bool, cond, ◌++◌, ◌∷◌}
+use Rattle.zv_map1.proofs.Common.{Ordering, is_lt, ◌≡◌, true, Less, refl, Equal, Greater, is_gt, ordering_reverse, Order, IsTotalOrder, Bytes, Pairs, IsMap}
+use Rattle.zv_map1.proofs.Common.{is_above, length, keys_of, length-map, ◌<◌, nth, ◌-◌, slice_get-get_or, [], arith, ℕ, ◌⊎◌, inl, inr, Less-from_sorted}
+use Rattle.zv_map1.proofs.Common.{eq-or-lt_of_le, IsGap, compared, compared_at, ◌∙◌, insert_entry, appended, insert_entry_gap, insert_end}
 
 less_of : (o : Ordering) → is_lt o ≡ true → o ≡ Less
 less_of Less e = refl
@@ -14,41 +13,37 @@ greater_of Less = refl
 greater_of Equal = refl
 greater_of Greater = refl
 
-module _ {order : Order} (total : IsTotalOrder order) (m : Pairs) (k : Bytes) where
+module _ {order : Order} (total : IsTotalOrder order) where
   -- one comparison, from either side
-  pub turned : (last : Bytes) → is_gt (order k last) ≡ is_lt (order last k)
-  turned last = rw (total.antisymm k last) (greater_of (order last k))
+  pub turned : (k last : Bytes) → is_gt (order k last) ≡ is_lt (order last k)
+  turned k last = rw (total.antisymm k last) (greater_of (order last k))
 
-  module _ (up : IsMap order m) (above : is_above order m k ≡ true) where
-    count : length (keys_of m) ≡ length m
-    count = length-map m (λ e. e.0)
+  module _ (m : Pairs) (k : Bytes) where
+    module _ (up : IsMap order m) (above : is_above order m k ≡ true) where
+      count : length (keys_of m) ≡ length m
+      count = length-map m (λ e. e.0)
 
-    last_less : 0 < length m → order (nth (keys_of m) (length m - 1)) k ≡ Less
-    last_less some =
-        let there : slice_get (keys_of m) (length m - 1) ≡ Some (nth (keys_of m) (length m - 1)) =
-        slice_get-get_or (keys_of m) (length m - 1) [] (omega (arith, count, some)) in
-        less_of (order (nth (keys_of m) (length m - 1)) k)
-        (sym (ap (λ (o : Option Bytes). option_map_or (λ x. is_lt (order x k)) o true) there) ∙ above)
+      last_less : 0 < length m → order (nth (keys_of m) (length m - 1)) k ≡ Less
+      last_less some = less_of _ (rw (slice_get-get_or (keys_of m) (length m - 1) [] (omega (arith, count, some))) at above)
 
-    all_less : (j : ℕ) → j < length m → order (nth (keys_of m) j) k ≡ Less
-    all_less j h =
-        let last = last_less (omega (arith, h)) in
-        let by : (j ≡ length m - 1) ⊎ (j < length m - 1) → order (nth (keys_of m) j) k ≡ Less = elim [
-          | inl e ↦ ap (λ (i : ℕ). order (nth (keys_of m) i) k) e ∙ last
-          | inr l ↦ total.trans (nth (keys_of m) j) (nth (keys_of m) (length m - 1)) k
-              (Less-from_sorted order (keys_of m) j (length m - 1) [] up l (omega (arith, count, h))) last
-        ] in
-        by (eq-or-lt_of_le (omega (arith, h)))
+      all_less : (j : ℕ) → j < length m → order (nth (keys_of m) j) k ≡ Less
+      all_less j h =
+          let last = last_less (omega (arith, h)) in
+          let by : (j ≡ length m - 1) ⊎ (j < length m - 1) → order (nth (keys_of m) j) k ≡ Less = elim [
+            | inl e ↦ rw e last
+            | inr l ↦ total.trans _ _ k (Less-from_sorted order (keys_of m) j (length m - 1) [] up l (omega (arith, count, h))) last
+          ] in
+          by (eq-or-lt_of_le (omega (arith, h)))
 
-    -- it goes to the end
-    pub gap_at_end : IsGap (compared order (keys_of m) k) (length m)
-    gap_at_end = record {
-      within = omega (arith, count, length-map (keys_of m) (λ x. order x k));
-      less = λ j h. compared_at order k (keys_of m) j (omega (arith, h, count)) ∙ all_less j h;
-      greater = λ j l h. absurd (omega (arith, l, h, count, length-map (keys_of m) (λ x. order x k)));
-    }
+      -- it goes to the end
+      pub gap_at_end : IsGap (compared order (keys_of m) k) (length m)
+      gap_at_end = record {
+        within = omega (arith, count, length-map (keys_of m) (λ x. order x k));
+        less = λ j h. compared_at order k (keys_of m) j (omega (arith, h, count)) ∙ all_less j h;
+        greater = λ j l h. absurd (omega (arith, l, h, count, length-map (keys_of m) (λ x. order x k)));
+      }
 
-  -- and the pair is put there
-  pub appended_is : (v : Bytes) → is_above order m k ≡ true → IsGap (compared order (keys_of m) k) (length m) → insert_entry order m k v ≡ appended order m k v
-  appended_is v above gap =
-      insert_entry_gap total k m v (length m) gap ∙ (insert_end m (k, v) ∙ sym (ap (λ (b : Bool). cond b (m ++ (k, v) ∷ []) m) above))
+    -- and the pair is put there
+    pub appended_is : (v : Bytes) → is_above order m k ≡ true → IsGap (compared order (keys_of m) k) (length m) →
+        insert_entry order m k v ≡ appended order m k v
+    appended_is v above gap = rw (insert_entry_gap total k m v (length m) gap, insert_end m (k, v), above) refl

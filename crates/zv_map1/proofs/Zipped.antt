@@ -82,7 +82,8 @@ module _ {usable_keys usable_values : Bool} {order : Order} {ks vs : List Bytes}
   -- ---- what a change leaves
 
   -- columns of a list of pairs that is a map
-  columns_of : {ks' vs' : List Bytes} {n : Pairs} → length vs' ≡ length ks' → zip ks' vs' ≡ n → IsMap order n → AreColumns usable_keys usable_values order ks' vs'
+  columns_of : {ks' vs' : List Bytes} {n : Pairs} → length vs' ≡ length ks' → zip ks' vs' ≡ n → IsMap order n →
+      AreColumns usable_keys usable_values order ks' vs'
   columns_of count e up = record {
     keys = c.keys;
     values = c.values;

@@ -1,4 +1,4 @@
-use Rattle.zv_map1.proofs.Common.{refl}
+use Rattle.zv_map1.proofs.Common.{refl, rules}
 use Rattle.zv_map1.proofs.Zipped.{no_columns}
 use Rattle.zv_map1.proofs.map.MapOver.clear.Goals as goal
 
@@ -9,7 +9,4 @@ pub returns-clause-pairs : goal.returns-clause-pairs
 returns-clause-pairs g c = rw c.zvl_clear.ensures.list refl
 
 pub returns-clause-room : goal.returns-clause-room
-returns-clause-room g c = rw (← c.self.view_is) (record {
-  keys = record { owned = c.zvl_clear.ensures.owned; spare = c.zvl_clear.ensures.spare };
-  values = record { owned = c.zvl_clear-2.ensures.owned; spare = c.zvl_clear-2.ensures.spare };
-})
+returns-clause-room g c = rw (← c.self.view_is) (search rules)

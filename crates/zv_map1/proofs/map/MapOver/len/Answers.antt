@@ -1,6 +1,5 @@
-use Rattle.zv_map1.proofs.Common.{◌∙◌, sym}
 use Rattle.zv_map1.proofs.Zipped.{count_is}
 use Rattle.zv_map1.proofs.map.MapOver.len.Goals as goal
 
 pub returns : goal.returns
-returns g c = c.zvl_len.ensures ∙ sym (count_is c.self.view_is c.self.invariant)
+returns g c = rw (count_is c.self.view_is c.self.invariant) c.zvl_len.ensures

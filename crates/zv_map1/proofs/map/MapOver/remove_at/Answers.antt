@@ -8,7 +8,8 @@ pub zvl_discard-requires-2-clause-place : goal.zvl_discard-requires-2-clause-pla
 zvl_discard-requires-2-clause-place g c = rw (← values_count_is c.self.view_is c.self.invariant) c.requires.at
 
 pub invariant_of-self : goal.invariant_of-self
-invariant_of-self g c = columns_without c.self.view_is c.self.invariant g.met.K.ZvOrd.total _ c.requires.at c.zvl_discard.ensures.list c.zvl_discard-2.ensures.list
+invariant_of-self g c =
+    columns_without c.self.view_is c.self.invariant g.met.K.ZvOrd.total _ c.requires.at c.zvl_discard.ensures.list c.zvl_discard-2.ensures.list
 
 pub returns : goal.returns
 returns g c = pairs_removed c.self.view_is c.self.invariant g.met.K.ZvOrd.total _ c.requires.at c.zvl_discard.ensures.list c.zvl_discard-2.ensures.list
