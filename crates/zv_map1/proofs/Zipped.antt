@@ -43,7 +43,7 @@ pub no_columns : {usable_keys usable_values : Bool} {order : Order} {ks vs : Lis
     AreColumns usable_keys usable_values order ks vs
 no_columns a b p q = record { keys = a; values = b; count = omega (arith, ap length p, ap length q); ascending = none_ascends _ _ p }
 
--- ---- the lists of a borrowed map
+-- ---- the lists of a borrowed map: its keys, its values, and how many they are
 
 module _ {K V : Type 0} {key : KindGhosts K} {order : OrdGhosts K} {value : KindGhosts V} (b : ZeroMapBorrowed K V order key value) where
   pub keys_in : keys_of (pairs_of b) ≡ list_of b.keys
@@ -55,7 +55,7 @@ module _ {K V : Type 0} {key : KindGhosts K} {order : OrdGhosts K} {value : Kind
   pub count_in : length (pairs_of b) ≡ length (list_of b.keys)
   count_in = omega (arith, length-zip (list_of b.keys) (list_of b.values), b.count)
 
--- ---- the lists of a map that is seen
+-- ---- the lists of a map that is seen: its keys, its values, and how many they are
 
 module _ {usable_keys usable_values : Bool} {order : Order} {ks vs : List Bytes} {kv vv : Vector} {m : Map1}
     (view : record { pairs = zip ks vs; keys = kv; values = vv } ≡ m) (c : AreColumns usable_keys usable_values order ks vs) where
@@ -71,6 +71,7 @@ module _ {usable_keys usable_values : Bool} {order : Order} {ks vs : List Bytes}
   pub values_count_is : length m.pairs ≡ length vs
   values_count_is = omega (arith, count_is, c.count)
 
+  -- the pairs are a map
   pub ascend : IsMap order m.pairs
   ascend = rw keys_are c.ascending
 
