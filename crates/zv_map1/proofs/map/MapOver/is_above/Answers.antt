@@ -5,12 +5,14 @@ use Rattle.zv_map1.proofs.map.MapOver.is_above.Goals as goal
 
 pub returns-in-Some-clause-above : goal.returns-in-Some-clause-above
 returns-in-Some-clause-above g c =
-    rw (keys_are c.self.view_is c.self.invariant, count_is c.self.view_is c.self.invariant, ← c.zvl_len.ensures, ← c.saturating_sub-last.ensures, ← c.in-Some.ensures)
-    (rw (c.is_gt.ensures, c.t_cmp_get.ensures) (turned g.met.K.ZvOrd.total _ _))
+    rw (keys_are c.self.view_is c.self.invariant, count_is c.self.view_is c.self.invariant)
+    (rw (← c.zvl_len.ensures, ← c.saturating_sub-last.ensures, ← c.in-Some.ensures, c.is_gt.ensures, c.t_cmp_get.ensures)
+    (turned g.met.K.ZvOrd.total _ _))
 
 pub returns-in-None-clause-above : goal.returns-in-None-clause-above
 returns-in-None-clause-above g c =
-    rw (keys_are c.self.view_is c.self.invariant, count_is c.self.view_is c.self.invariant, ← c.zvl_len.ensures, ← c.saturating_sub-last.ensures, ← c.in-None.ensures) refl
+    rw (keys_are c.self.view_is c.self.invariant, count_is c.self.view_is c.self.invariant)
+    (rw (← c.zvl_len.ensures, ← c.saturating_sub-last.ensures, ← c.in-None.ensures) refl)
 
 pub returns-in-Some-clause-gap : goal.returns-in-Some-clause-gap
 returns-in-Some-clause-gap g c = λ yes.
