@@ -1,12 +1,7 @@
 -- Composed values that compare Equal have parts that do.
-use Rattle.std.proofs.Common.{◌≡◌, List, [], ◌∷◌, Some, None, refl, ap}
-use Rattle.std.specs.Cmp.Lexicographic.{slice_cmp}
-use Rattle.std.specs.List.{AllByRecursion}
+use Rattle.zv_ule.proofs.Common.{◌≡◌, List, [], ◌∷◌, Some, None, refl, ap, slice_cmp, AllByRecursion, ordering_then, Ordering, Less, Equal, Greater}
 use Rattle.std.specs.Prelude.{IfSome}
 use Rattle.std.specs.Option.{option_cmp}
-use Rattle.std.specs.Ordering.{ordering_then}
-use Rattle.std.specs.declared.cmp.Ordering.{Ordering}
-use Rattle.std.specs.declared.cmp.Ordering.TheVariants.{Less, Equal, Greater}
 use Rattle.zv_ule.specs.Orders.{EqualOnlyIfSame}
 
 pub both_equal : (a b : Ordering) → ordering_then a b ≡ Equal → (a ≡ Equal) × (b ≡ Equal)

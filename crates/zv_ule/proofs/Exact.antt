@@ -1,37 +1,29 @@
 -- Which byte strings are lists of values, and which of them compare Equal.
-use Rattle.std.proofs.Common.{◌≡◌, ℕ, ◌%◌, ◌<◌, List, [], ◌∷◌, length, map, Option, Some, None, ap, sym, ◌∙◌, arith, ◌⊎◌, inl, inr, refl}
-use Rattle.std.specs.Prelude.{flat_map, ◌↔◌}
-use Rattle.std.specs.Cmp.Lexicographic.{slice_cmp}
-use Rattle.std.specs.Ordering.{nat_cmp}
-use Rattle.std.specs.declared.cmp.Ordering.TheVariants.{Equal}
-use Rattle.std.proofs.lemmas.Grind.{common_steps}
-use Rattle.std.proofs.lemmas.Bool.Decides.{nat_tests}
-use Rattle.std.proofs.lemmas.Map.Lookups.{exact_bytes}
-use Rattle.zv_ule.specs.declared.error.TyName.{TyName}
-use Rattle.zv_ule.specs.declared.error.UleError.{UleError}
+use Rattle.zv_ule.proofs.Common.{◌≡◌, ℕ, ◌%◌, ◌<◌, List, [], ◌∷◌, length, map, Option, Some, None, ap, sym, ◌∙◌, arith, refl, flat_map, slice_cmp, nat_cmp}
+use Rattle.zv_ule.proofs.Common.{Equal, common_steps, nat_tests, exact_bytes, TyName, UleError, IsBytes, chunks_of, chunks_fault, values_of, first_fault}
+use Rattle.zv_ule.proofs.Common.{or_fault, IsChunk, IsSpelling}
+use Rattle.std.proofs.Common.{◌⊎◌, inl, inr}
+use Rattle.std.specs.Prelude.{◌↔◌}
 use Rattle.zv_ule.specs.declared.error.UleError.TheVariants.{InvalidLength}
-use Rattle.zv_ule.specs.Bytes.{IsBytes}
-use Rattle.zv_ule.specs.Chunks.{chunks_of, chunks_fault, values_of, first_fault, or_fault, IsFirstFault}
-use Rattle.zv_ule.specs.Fixed.{IsChunk, IsListOf, IsSpelling}
-pub use Rattle.zv_ule.specs.laws.Spellings.{through_twin}
+use Rattle.zv_ule.specs.Chunks.{IsFirstFault}
+use Rattle.zv_ule.specs.Fixed.{IsListOf}
 use Rattle.zv_ule.proofs.Lists.{joined_fault, joined_values, read_list}
+pub use Rattle.zv_ule.specs.laws.Spellings.{through_twin}
 
-pub exact : {V : Type 0} {is_value : V → Type 0} {w : ℕ} {f : List ℕ → Option UleError} {chunk : V → List ℕ} {value : List ℕ → V}
-    (s : IsSpelling is_value w f chunk value) (ty : TyName) → 0 < w → (b : List ℕ) → IsBytes b → (chunks_fault ty w f b ≡ None) ↔
-    ((vs : List V) × IsListOf is_value chunk b vs)
-exact {w = w} {f = f} {value = value} s ty pos b each = (
-  λ h. let r = read_list s ty b each h in (map value (chunks_of w b), record { values = r.values; joined = sym r.joined }),
-  λ p. ap (λ x. chunks_fault ty w f x) p.1.joined ∙ joined_fault s ty p.0 p.1.values pos,
-)
+module _ {V : Type 0} {is_value : V → Type 0} {w : ℕ} {f : List ℕ → Option UleError} {chunk : V → List ℕ} {value : List ℕ → V}
+    (s : IsSpelling is_value w f chunk value) where
+  pub exact : (ty : TyName) → 0 < w → (b : List ℕ) → IsBytes b → (chunks_fault ty w f b ≡ None) ↔ ((vs : List V) × IsListOf is_value chunk b vs)
+  exact ty pos b each = (
+    λ h. let r = read_list s ty b each h in (map value (chunks_of w b), record { values = r.values; joined = sym r.joined }),
+    λ p. ap (chunks_fault ty w f) p.1.joined ∙ joined_fault s ty p.0 p.1.values pos,
+  )
 
--- the values that are read are those that the bytes are the chunks of
-pub only : {V : Type 0} {is_value : V → Type 0} {w : ℕ} {f : List ℕ → Option UleError} {chunk : V → List ℕ} {value : List ℕ → V}
-    (s : IsSpelling is_value w f chunk value) → 0 < w → (b : List ℕ) (vs : List V) → IsListOf is_value chunk b vs → values_of w value b ≡ vs
-only {w = w} {value = value} s pos b vs l = ap (values_of w value) l.joined ∙ joined_values s vs l.values pos
+  -- the values that are read are those that the bytes are the chunks of
+  pub only : 0 < w → (b : List ℕ) (vs : List V) → IsListOf is_value chunk b vs → values_of w value b ≡ vs
+  only pos b vs l = ap (values_of w value) l.joined ∙ joined_values s vs l.values pos
 
-pub one_chunk : {V : Type 0} {is_value : V → Type 0} {w : ℕ} {f : List ℕ → Option UleError} {chunk : V → List ℕ} {value : List ℕ → V}
-    (s : IsSpelling is_value w f chunk value) (v : V) (b : List ℕ) → IsChunk w f b → value b ≡ v → b ≡ chunk v
-one_chunk {chunk = chunk} s v b c e = sym (s.again b c) ∙ ap chunk e
+  pub one_chunk : (v : V) (b : List ℕ) → IsChunk w f b → value b ≡ v → b ≡ chunk v
+  one_chunk v b c e = sym (s.again b c) ∙ ap chunk e
 
 pub uneven : (ty : TyName) (w : ℕ) (f : List ℕ → Option UleError) (b : List ℕ) → 0 < length b % w → chunks_fault ty w f b ≡ Some (InvalidLength ty (length b))
 uneven ty w f b h = grind (arith, nat_tests, common_steps)

@@ -1,12 +1,10 @@
 -- Four bytes compare as the number that they are.
-use Rattle.std.proofs.Common.{◌≡◌, ℕ, ◌+◌, ◌-◌, ◌*◌, ◌<◌, ◌≤◌, List, [], ◌∷◌, length, drop, take, take_all, length-drop}
-use Rattle.std.proofs.Common.{drop-drop, get_or-drop, get_or, refl, sym, subst, ap, ◌∙◌, arith, Fits, w8}
-use Rattle.std.specs.Cmp.{nat_cmp_is, ranked}
-use Rattle.std.specs.Cmp.Lexicographic.{slice_cmp}
+use Rattle.zv_ule.proofs.Common.{◌≡◌, ℕ, ◌+◌, ◌-◌, ◌*◌, ◌<◌, ◌≤◌, List, [], ◌∷◌, length, drop, take, length-drop, drop-drop, get_or, refl, sym, subst, ap, ◌∙◌}
+use Rattle.zv_ule.proofs.Common.{arith, nat_cmp_is, slice_cmp, nat_cmp, ordering_then, Ordering, Less, Equal, Greater}
+use Rattle.std.proofs.Common.{take_all, get_or-drop, Fits, w8}
+use Rattle.std.specs.Cmp.{ranked}
 use Rattle.std.specs.Int.{from_be_bytes, w32}
-use Rattle.std.specs.Ordering.{MatchOrdering, nat_cmp, ordering_then}
-use Rattle.std.specs.declared.cmp.Ordering.{Ordering}
-use Rattle.std.specs.declared.cmp.Ordering.TheVariants.{Less, Equal, Greater}
+use Rattle.std.specs.Ordering.{MatchOrdering}
 
 -- one byte more: the bytes before it decide, and where they are equal it does
 digit : (a b m n : ℕ) → m < 256 → n < 256 → ordering_then (nat_cmp a b) (nat_cmp m n) ≡ nat_cmp (a * 256 + m) (b * 256 + n)

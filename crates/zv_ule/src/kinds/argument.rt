@@ -52,6 +52,7 @@ impl<T: AsULE> ZvArg<T> for T {
     ghost bytes = { λ v. T.ULE.chunk (T.stored v) };
 
     #[inline]
+    #[tactic(auto, using(crate::proofs::ChunkFaults::good_one))]
     fn arg_len(&self) -> usize {
         let _ = self.to_unaligned();
         <T::ULE as ULE>::size()

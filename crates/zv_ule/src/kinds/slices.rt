@@ -36,6 +36,7 @@ impl<U: ULE> ZvKind for SliceULE<U> {
     }
 
     #[inline]
+    #[tactic(auto, using(crate::proofs::ChunkFaults::plain_bytes))]
     fn is_sound_everywhere(_bytes: &[u8]) -> bool {
         U::is_plain() && U::size() == 1
     }

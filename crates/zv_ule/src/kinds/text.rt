@@ -30,6 +30,7 @@ impl ZvKind for StrULE {
     ghost fault = { text_fault };
 
     #[inline]
+    #[tactic(auto, using(crate::proofs::Texts::text_good, crate::proofs::Texts::text_bad))]
     fn check(bytes: &[u8]) -> Result<(), UleError> {
         match str::from_utf8(bytes) {
             Ok(_) => Ok(()),
@@ -40,11 +41,13 @@ impl ZvKind for StrULE {
     ghost boundary = { text_boundary };
 
     #[inline]
+    #[tactic(auto, using(crate::proofs::Boundaries::ascii_between))]
     fn is_sound_everywhere(bytes: &[u8]) -> bool {
         bytes.is_ascii()
     }
 
     #[inline]
+    #[tactic(auto, using(crate::proofs::Boundaries::text_between))]
     fn is_sound_between_boundaries(bytes: &[u8]) -> bool {
         simdutf8::is_utf8(bytes)
     }

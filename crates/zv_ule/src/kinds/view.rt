@@ -129,6 +129,7 @@ impl<'b> VarRef<'b, StrULE> {
 impl<'b> VarRef<'b, SliceULE<u8>> {
     /// Views a byte string. It checks nothing, as every byte string is a slice of bytes.
     #[inline]
+    #[tactic(auto, using(crate::proofs::ChunkFaults::plain_bytes))]
     pub fn of_bytes(bytes: &'b [u8]) -> VarRef<'b, SliceULE<u8>>
         ensures { result.bytes.now ≡ bytes.now }
     {

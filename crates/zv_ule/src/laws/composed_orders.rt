@@ -11,6 +11,7 @@ use crate::laws::exact_order;
 
 /// Tuples of two that compare Equal are the same bytes, where parts that compare Equal are the
 /// same.
+#[tactic(auto, using(crate::proofs::ComposedOrders::both_equal))]
 pub fn exact_order_of_two<A: AsULE + Ord, B: AsULE + Ord>()
     requires first { EqualOnlyIfSame A.is_value A.cmp }
     requires second { EqualOnlyIfSame B.is_value B.cmp }
@@ -21,6 +22,7 @@ pub fn exact_order_of_two<A: AsULE + Ord, B: AsULE + Ord>()
 
 /// Tuples of three that compare Equal are the same bytes, where parts that compare Equal are the
 /// same.
+#[tactic(auto, using(crate::proofs::ComposedOrders::both_equal))]
 pub fn exact_order_of_three<A: AsULE + Ord, B: AsULE + Ord, C: AsULE + Ord>()
     requires first { EqualOnlyIfSame A.is_value A.cmp }
     requires second { EqualOnlyIfSame B.is_value B.cmp }
@@ -32,6 +34,7 @@ pub fn exact_order_of_three<A: AsULE + Ord, B: AsULE + Ord, C: AsULE + Ord>()
 
 /// Tuples of four that compare Equal are the same bytes, where parts that compare Equal are the
 /// same.
+#[tactic(auto, using(crate::proofs::ComposedOrders::both_equal))]
 pub fn exact_order_of_four<A: AsULE + Ord, B: AsULE + Ord, C: AsULE + Ord, D: AsULE + Ord>()
     requires first { EqualOnlyIfSame A.is_value A.cmp }
     requires second { EqualOnlyIfSame B.is_value B.cmp }
@@ -44,6 +47,7 @@ pub fn exact_order_of_four<A: AsULE + Ord, B: AsULE + Ord, C: AsULE + Ord, D: As
 
 /// Tuples of five that compare Equal are the same bytes, where parts that compare Equal are the
 /// same.
+#[tactic(auto, using(crate::proofs::ComposedOrders::both_equal))]
 pub fn exact_order_of_five<
     A: AsULE + Ord,
     B: AsULE + Ord,
@@ -63,6 +67,7 @@ pub fn exact_order_of_five<
 
 /// Tuples of six that compare Equal are the same bytes, where parts that compare Equal are the
 /// same.
+#[tactic(auto, using(crate::proofs::ComposedOrders::both_equal))]
 pub fn exact_order_of_six<
     A: AsULE + Ord,
     B: AsULE + Ord,
@@ -84,6 +89,7 @@ pub fn exact_order_of_six<
 }
 
 /// Options that compare Equal are the same bytes, where values that compare Equal are the same.
+#[tactic(auto, using(crate::proofs::ComposedOrders::same_options))]
 pub fn exact_order_of_options<U: AsULE + Ord>()
     requires { EqualOnlyIfSame U.is_value U.cmp }
     ensures { EqualIsSame ⟦<Option<U> as ZvKind>⟧.fault ⟦<Option<U> as ZvOrd>⟧.cmp }
@@ -102,6 +108,7 @@ where
 {}
 
 /// Arrays that compare Equal are the same bytes.
+#[tactic(auto, using(std::proofs::lemmas::Map::Lookups::exact_bytes))]
 pub fn exact_orders_of_arrays<const N: usize>()
     requires { N < 2 ^ 32 }
     ensures one { EqualIsSame ⟦<[u8; N] as ZvKind>⟧.fault ⟦<[u8; N] as ZvOrd>⟧.cmp }

@@ -1,5 +1,4 @@
-use Rattle.std.proofs.Common.{arith}
-use Rattle.zv_ule.specs.Bytes.{IsBytes}
+use Rattle.zv_ule.proofs.Common.{arith, IsBytes}
 use Rattle.zv_ule.proofs.Exact.{through_twin}
 use Rattle.zv_ule.proofs.Lists.{read_list}
 use Rattle.zv_ule.proofs.chunks.all_read.Goals as goal

@@ -1,6 +1,4 @@
-use Rattle.std.proofs.Common.{◌≡◌, ◌∙◌, ◌+◌, ◌*◌, drop, ap, sym, arith}
-use Rattle.std.specs.Cmp.Lexicographic.{slice_cmp}
-use Rattle.std.specs.Ordering.{nat_cmp, ordering_then}
+use Rattle.zv_ule.proofs.Common.{◌≡◌, ◌∙◌, ◌+◌, ◌*◌, drop, ap, sym, arith, slice_cmp, nat_cmp, ordering_then}
 use Rattle.zv_ule.proofs.Words.{then_kept, words_at}
 use Rattle.zv_ule.proofs.compare.compare_bytes.Goals as goal
 

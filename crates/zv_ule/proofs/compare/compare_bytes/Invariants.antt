@@ -1,6 +1,4 @@
-use Rattle.std.proofs.Common.{◌≡◌, ◌*◌, drop}
-use Rattle.std.specs.Cmp.Lexicographic.{slice_cmp}
-use Rattle.std.specs.Ordering.{nat_cmp}
+use Rattle.zv_ule.proofs.Common.{◌≡◌, ◌*◌, drop, slice_cmp, nat_cmp}
 use Rattle.zv_ule.proofs.compare.compare_bytes.Given as goal
 
 -- what is left compares as the whole

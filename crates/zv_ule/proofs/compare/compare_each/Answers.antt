@@ -1,8 +1,6 @@
-use Rattle.std.proofs.Common.{◌≡◌, ℕ, ◌+◌, ◌≤◌, List, [], ◌∷◌, length, drop, min, arith, length-drop, sym, ◌∙◌}
-use Rattle.std.specs.Cmp.{nat_cmp_is}
-use Rattle.std.specs.Cmp.Lexicographic.{slice_cmp}
-use Rattle.std.specs.Ordering.{nat_cmp}
-use Rattle.std.specs.declared.cmp.Ordering.TheVariants.{Less, Equal, Greater}
+use Rattle.zv_ule.proofs.Common.{◌≡◌, ℕ, ◌+◌, ◌≤◌, List, [], ◌∷◌, length, drop, arith, length-drop, sym, ◌∙◌, nat_cmp_is, slice_cmp, nat_cmp, Less, Equal}
+use Rattle.zv_ule.proofs.Common.{Greater}
+use Rattle.std.proofs.Common.{min}
 use Rattle.zv_ule.proofs.compare.compare_each.Goals as goal
 
 -- where one is read to its end, the lengths decide

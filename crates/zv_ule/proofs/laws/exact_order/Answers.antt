@@ -1,4 +1,4 @@
-use Rattle.std.proofs.Common.{ap, sym, ◌∙◌}
+use Rattle.zv_ule.proofs.Common.{ap, sym, ◌∙◌}
 use Rattle.zv_ule.proofs.ChunkFaults.{kind_chunk}
 use Rattle.zv_ule.proofs.Exact.{through_twin}
 use Rattle.zv_ule.proofs.laws.exact_order.Goals as goal

@@ -1,4 +1,4 @@
-use Rattle.std.proofs.lemmas.Map.Lookups.{exact_bytes}
+use Rattle.zv_ule.proofs.Common.{exact_bytes}
 use Rattle.zv_ule.specs.declared.error.TyName.TheVariants.{U8}
 use Rattle.zv_ule.specs.laws.Spellings.{byte_spelling}
 use Rattle.zv_ule.proofs.Exact.{same_values}

@@ -1,5 +1,4 @@
-use Rattle.std.proofs.Common.{◌<◌, ◌∙◌, sym, subst}
-use Rattle.std.specs.Bool.{IsTrue}
+use Rattle.zv_ule.proofs.Common.{◌<◌, ◌∙◌, sym, subst, IsTrue}
 use Rattle.zv_ule.proofs.ChunkFaults.{width_pos, whole_fault}
 use Rattle.zv_ule.proofs.Exact.{through_twin, exact, only, one_chunk, uneven, first}
 use Rattle.zv_ule.proofs.laws.fixed_lists.Goals as goal
@@ -10,11 +9,11 @@ returns g c =
     let w = g.T.ULE.ULE.width in
     let pos : 0 < w = width_pos w (subst IsTrue g.met.T.AsULE.kind.widths c.requires) in
     record {
-      exact = λ b each. exact s g.T.ULE.ULE.TY pos b each;
-      only = λ b vs l. only s pos b vs l;
-      chunk = λ v h. s.writes v h;
-      back = λ v h. s.back v h;
-      one_chunk = λ v b k e. one_chunk s v b k e;
-      uneven = λ b h. uneven g.T.ULE.ULE.TY w g.T.ULE.ULE.chunk_fault b h;
+      exact = exact s g.T.ULE.ULE.TY pos;
+      only = only s pos;
+      chunk = s.writes;
+      back = s.back;
+      one_chunk = one_chunk s;
+      uneven = uneven g.T.ULE.ULE.TY w g.T.ULE.ULE.chunk_fault;
       first = λ b e whole h. first g.T.ULE.ULE.chunk_fault _ e (sym (whole_fault g.T.ULE.ULE.TY w g.T.ULE.ULE.chunk_fault b whole) ∙ h);
     }

@@ -1,4 +1,4 @@
-use Rattle.std.proofs.Common.{◌<◌, ◌∙◌, sym}
+use Rattle.zv_ule.proofs.Common.{◌<◌, ◌∙◌, sym}
 use Rattle.zv_ule.proofs.ChunkFaults.{width_pos, whole_fault}
 use Rattle.zv_ule.proofs.Exact.{exact, only, one_chunk, uneven, first}
 use Rattle.zv_ule.proofs.laws.stored_lists.Goals as goal
@@ -10,11 +10,11 @@ returns g c =
     let fault = g.U.ULE.chunk_fault in
     let pos : 0 < w = width_pos w c.requires in
     record {
-      exact = λ b each. exact s g.U.ULE.TY pos b each;
-      only = λ b us l. only s pos b us l;
-      chunk = λ u h. s.writes u h;
-      back = λ u h. s.back u h;
-      one_chunk = λ u b k e. one_chunk s u b k e;
-      uneven = λ b h. uneven g.U.ULE.TY w fault b h;
+      exact = exact s g.U.ULE.TY pos;
+      only = only s pos;
+      chunk = s.writes;
+      back = s.back;
+      one_chunk = one_chunk s;
+      uneven = uneven g.U.ULE.TY w fault;
       first = λ b e whole h. first fault _ e (sym (whole_fault g.U.ULE.TY w fault b whole) ∙ h);
     }

@@ -1,7 +1,5 @@
-use Rattle.std.proofs.Common.{◌≡◌, ◌+◌, ◌-◌, ◌/◌, sym, ◌∙◌, arith}
+use Rattle.zv_ule.proofs.Common.{◌≡◌, ◌+◌, ◌-◌, ◌/◌, sym, ◌∙◌, arith, Equal, Bytes}
 use Rattle.std.specs.Cmp.{Equal-is}
-use Rattle.std.specs.declared.cmp.Ordering.TheVariants.{Equal}
-use Rattle.zv_ule.specs.Search.{Bytes}
 use Rattle.zv_ule.proofs.Halving.{middle_hit, left_half, halved_more}
 use Rattle.zv_ule.proofs.search.halve.Goals as goal
 

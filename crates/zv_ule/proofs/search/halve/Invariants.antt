@@ -1,5 +1,5 @@
-use Rattle.std.proofs.Common.{◌≡◌, ◌+◌, ◌-◌, ◌≤◌, slice_range}
-use Rattle.zv_ule.specs.Search.{Rises, compared}
+use Rattle.zv_ule.proofs.Common.{◌≡◌, ◌+◌, ◌-◌, ◌≤◌, slice_range, Rises}
+use Rattle.zv_ule.specs.Search.{compared}
 use Rattle.zv_ule.proofs.Halving.{IsNarrowed, IsHalved}
 use Rattle.zv_ule.proofs.search.halve.Given as goal
 

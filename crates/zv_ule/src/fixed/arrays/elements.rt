@@ -9,6 +9,7 @@ use crate::element::{AsULE, ULE};
 
 /// Whether every chunk of every list is a value's, so that an array need not be looked at.
 #[inline]
+#[tactic(auto, using(crate::proofs::ChunkFaults::plain_fault))]
 pub fn are_plain<U: ULE>() -> bool
     ensures { IsTrue result → (bytes : List ℕ) → first_fault U.chunk_fault
         (chunks_of U.width bytes) ≡ None }
@@ -18,6 +19,7 @@ pub fn are_plain<U: ULE>() -> bool
 
 /// Reads as many values as there are places.
 #[inline]
+#[tactic(auto, using(crate::proofs::ChunkFaults::width_pos, crate::specs::laws::ArraySpellings::pieces_are))]
 pub fn read_all<U: ULE>(bytes: &[u8], out: &mut [U])
     requires usable { IsTrue (is_width U.width) }
     requires whole { length bytes.now ≡ length out.old * U.width }

@@ -1,5 +1,4 @@
-use Rattle.std.proofs.Common.{◌≡◌, ◌-◌, ◌*◌, ◌≤◌, length, is_none, ◌&&◌}
-use Rattle.zv_ule.specs.Chunks.{first_fault, chunks}
+use Rattle.zv_ule.proofs.Common.{◌≡◌, ◌-◌, ◌*◌, ◌≤◌, length, is_none, ◌&&◌, first_fault, chunks}
 use Rattle.zv_ule.proofs.element.ULE.are_good_chunks.Given as goal
 
 -- the whole is good where what was read is and the rest are

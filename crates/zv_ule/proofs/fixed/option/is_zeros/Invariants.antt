@@ -1,4 +1,5 @@
-use Rattle.std.proofs.Common.{◌≡◌, ◌&&◌, drop, eqb}
+use Rattle.zv_ule.proofs.Common.{◌≡◌, ◌&&◌, drop}
+use Rattle.std.proofs.Common.{eqb}
 use Rattle.std.specs.List.{list_all}
 use Rattle.zv_ule.proofs.fixed.option.is_zeros.Given as goal
 

@@ -1,6 +1,5 @@
-use Rattle.std.proofs.Common.{◌≡◌, ap, ◌∙◌, arith}
+use Rattle.zv_ule.proofs.Common.{◌≡◌, ap, ◌∙◌, arith, IsChunk}
 use Rattle.zv_ule.specs.Bytes.{number}
-use Rattle.zv_ule.specs.Fixed.{IsChunk}
 use Rattle.zv_ule.proofs.Fields.{number_below}
 use Rattle.zv_ule.proofs.format.integer.read_number.Goals as goal
 

@@ -1,6 +1,4 @@
-use Rattle.std.proofs.Common.{◌≡◌, length, None}
-use Rattle.std.specs.Cmp.Lexicographic.{slice_cmp}
-use Rattle.zv_ule.specs.Chunks.{chunks_fault, values_of}
+use Rattle.zv_ule.proofs.Common.{◌≡◌, length, None, slice_cmp, chunks_fault, values_of}
 use Rattle.zv_ule.proofs.kinds.slice_order.compare_chunks.Given as goal
 
 abbrev pub invariant-loop-first : goal.invariant-loop-first

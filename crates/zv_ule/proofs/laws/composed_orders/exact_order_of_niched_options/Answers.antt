@@ -1,9 +1,8 @@
-use Rattle.std.proofs.Common.{ap, sym, ◌∙◌}
+use Rattle.zv_ule.proofs.Common.{ap, sym, ◌∙◌, IsChunk, niche_fault}
 use Rattle.std.specs.Prelude.{option_map}
 use Rattle.zv_ule.specs.declared.error.TyName.TheVariants.{NichedOpt}
 use Rattle.zv_ule.specs.laws.NicheSpellings.{niche_spelling}
-use Rattle.zv_ule.specs.Fixed.{IsChunk}
-use Rattle.zv_ule.specs.Niches.{niche_chunk, niche_fault}
+use Rattle.zv_ule.specs.Niches.{niche_chunk}
 use Rattle.zv_ule.specs.laws.OptionSpellings.{option_twin}
 use Rattle.zv_ule.proofs.ChunkFaults.{one_good}
 use Rattle.zv_ule.proofs.ComposedOrders.{same_options}

@@ -1,5 +1,4 @@
-use Rattle.std.proofs.Common.{ap, sym, ◌∙◌}
-use Rattle.std.specs.Prelude.{flat_map}
+use Rattle.zv_ule.proofs.Common.{ap, sym, ◌∙◌, flat_map}
 use Rattle.zv_ule.proofs.ComposedOrders.{same_lists}
 use Rattle.zv_ule.proofs.Lists.{read_list}
 use Rattle.zv_ule.proofs.laws.composed_orders.exact_order_of_slices.Goals as goal

@@ -1,7 +1,5 @@
-use Rattle.std.proofs.Common.{◌≡◌, ℕ, ◌+◌, ◌-◌, ◌<◌, ◌≤◌, Bool, ◌&&◌, List, [], ◌∷◌, length, slice_range, refl, ◌∙◌, sym, ap, arith}
-use Rattle.std.specs.Ordering.{is_lt}
-use Rattle.std.specs.declared.cmp.Ordering.{Ordering}
-use Rattle.zv_ule.specs.Search.{Bytes, ascends, nth}
+use Rattle.zv_ule.proofs.Common.{◌≡◌, ℕ, ◌+◌, ◌-◌, ◌<◌, ◌≤◌, Bool, ◌&&◌, List, [], length, slice_range, refl, ◌∙◌, sym, ap, arith, is_lt, Ordering, Bytes}
+use Rattle.zv_ule.proofs.Common.{ascends, nth}
 use Rattle.zv_ule.proofs.Halving.{range_next}
 use Rattle.zv_ule.proofs.search.ascending.range_ascends.Goals as goal
 
@@ -9,13 +7,7 @@ use Rattle.zv_ule.proofs.search.ascending.range_ascends.Goals as goal
 ascends_step : (order : Bytes → Bytes → Ordering) (xs : List Bytes) (p i q e : ℕ) (r : Bool) →
     p + 1 ≡ i → q ≡ i → i < e → e ≤ length xs → r ≡ is_lt (order (nth xs p) (nth xs i)) →
     ascends order (slice_range xs p e) ≡ (r && ascends order (slice_range xs q e))
-ascends_step order xs p i q e r a b h w f =
-    let first = range_next xs p e [] (omega arith) w in
-    let rest = range_next xs (p + 1) e [] (omega arith) w in
-    let next : ascends order (slice_range xs p e) ≡ (is_lt (order (nth xs p) (nth xs (p + 1))) && ascends order (slice_range xs (p + 1) e)) =
-    ap (ascends order) (first ∙ ap (λ (ys : List Bytes). nth xs p ∷ ys) rest)
-    ∙ ap (λ (ys : List Bytes). is_lt (order (nth xs p) (nth xs (p + 1))) && ascends order ys) (sym rest) in
-    next ∙ rw (a, b, f) refl
+ascends_step order xs p i q e r a b h w f = rw (b, range_next xs p e [] (omega arith) w, a, range_next xs i e [] h w, f) refl
 
 pub returns-then-not-is_lt : goal.returns-then-not-is_lt
 returns-then-not-is_lt g c =

@@ -1,5 +1,4 @@
-use Rattle.std.proofs.Common.{◌≡◌, ◌-◌, ◌<◌, ◌≤◌, length, slice_range}
-use Rattle.zv_ule.specs.Search.{ascends, nth}
+use Rattle.zv_ule.proofs.Common.{◌≡◌, ◌-◌, ◌<◌, ◌≤◌, length, slice_range, ascends, nth}
 use Rattle.zv_ule.specs.Views.{element_of}
 use Rattle.zv_ule.proofs.search.ascending.range_ascends.Given as goal
 

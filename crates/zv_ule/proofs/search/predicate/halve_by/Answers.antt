@@ -1,9 +1,7 @@
-use Rattle.std.proofs.Common.{◌≡◌, ◌+◌, ◌-◌, ◌/◌, [], ◌∷◌, ◌++◌, slice_range, refl, sym, ◌∙◌, ap, arith}
+use Rattle.zv_ule.proofs.Common.{◌≡◌, ◌+◌, ◌-◌, ◌/◌, [], ◌∷◌, ◌++◌, slice_range, refl, sym, ◌∙◌, ap, arith, get_or-between, nth}
 use Rattle.std.specs.Fn.{CalledAt}
 use Rattle.std.proofs.lemmas.Fn.{FoldsTo-push, called_at}
-use Rattle.std.proofs.lemmas.List.Edits.{get_or-between}
 use borrow.Author.Rules.{of_calls}
-use Rattle.zv_ule.specs.Search.{nth}
 use Rattle.zv_ule.proofs.Halving.{answered, middle_hit, left_less, left_greater}
 use Rattle.zv_ule.proofs.search.predicate.halve_by.Goals as goal
 

@@ -1,7 +1,5 @@
-use Rattle.std.proofs.Common.{◌≡◌, ◌-◌, ◌≤◌, List, map, slice_range}
-use Rattle.std.specs.Fn.{ComputesKey}
-use Rattle.std.specs.declared.cmp.Ordering.{Ordering}
-use Rattle.zv_ule.specs.Search.{Asked, Bytes, Rises}
+use Rattle.zv_ule.proofs.Common.{◌≡◌, ◌-◌, ◌≤◌, List, map, slice_range, ComputesKey, Ordering, Bytes, Rises}
+use Rattle.zv_ule.specs.Search.{Asked}
 use Rattle.zv_ule.proofs.Halving.{IsNarrowed}
 use Rattle.zv_ule.proofs.search.predicate.halve_by.Given as goal
 

@@ -1,5 +1,4 @@
-use Rattle.std.proofs.Common.{◌≡◌, length, take, map}
-use Rattle.std.specs.List.{AllByRecursion}
+use Rattle.zv_ule.proofs.Common.{◌≡◌, length, take, map, AllByRecursion}
 use Rattle.zv_ule.proofs.fixed.arrays.elements.load_all.Given as goal
 
 abbrev pub invariant-loop-index : goal.invariant-loop-index

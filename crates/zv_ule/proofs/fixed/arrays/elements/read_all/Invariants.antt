@@ -1,6 +1,4 @@
-use Rattle.std.proofs.Common.{◌≡◌, length, take, map}
-use Rattle.std.specs.List.{AllByRecursion}
-use Rattle.zv_ule.specs.Chunks.{chunks_of}
+use Rattle.zv_ule.proofs.Common.{◌≡◌, length, take, map, AllByRecursion, chunks_of}
 use Rattle.zv_ule.proofs.fixed.arrays.elements.read_all.Given as goal
 
 abbrev pub invariant-loop-index : goal.invariant-loop-index

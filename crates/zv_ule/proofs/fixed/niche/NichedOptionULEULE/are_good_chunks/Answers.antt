@@ -1,5 +1,4 @@
-use Rattle.std.proofs.Common.{◌≡◌, ℕ, ◌+◌, ◌-◌, ◌/◌, length, arith, ◌∙◌}
-use Rattle.zv_ule.specs.Niches.{niche_fault}
+use Rattle.zv_ule.proofs.Common.{◌≡◌, ℕ, ◌+◌, ◌-◌, ◌/◌, length, arith, ◌∙◌, niche_fault}
 use Rattle.zv_ule.proofs.ChunkFaults.{good_more, mul_step}
 use Rattle.zv_ule.proofs.fixed.niche.NichedOptionULEULE.are_good_chunks.Goals as goal
 

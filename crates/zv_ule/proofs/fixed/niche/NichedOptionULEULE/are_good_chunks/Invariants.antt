@@ -1,6 +1,4 @@
-use Rattle.std.proofs.Common.{◌≡◌, ◌-◌, ◌*◌, ◌≤◌, length, is_none, ◌&&◌}
-use Rattle.zv_ule.specs.Niches.{niche_fault}
-use Rattle.zv_ule.specs.Chunks.{first_fault, chunks}
+use Rattle.zv_ule.proofs.Common.{◌≡◌, ◌-◌, ◌*◌, ◌≤◌, length, is_none, ◌&&◌, niche_fault, first_fault, chunks}
 use Rattle.zv_ule.proofs.fixed.niche.NichedOptionULEULE.are_good_chunks.Given as goal
 
 -- the whole is good where what was read is and the rest are

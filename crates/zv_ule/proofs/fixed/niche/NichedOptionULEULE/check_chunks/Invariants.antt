@@ -1,6 +1,4 @@
-use Rattle.std.proofs.Common.{◌≡◌, ◌%◌, length}
-use Rattle.zv_ule.specs.Niches.{niche_fault}
-use Rattle.zv_ule.specs.Chunks.{first_fault, chunks_of}
+use Rattle.zv_ule.proofs.Common.{◌≡◌, ◌%◌, length, niche_fault, first_fault, chunks_of}
 use Rattle.zv_ule.proofs.fixed.niche.NichedOptionULEULE.check_chunks.Given as goal
 
 abbrev pub invariant-loop-rest : goal.invariant-loop-rest
