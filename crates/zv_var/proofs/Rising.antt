@@ -1,18 +1,13 @@
 -- Starts in order, and what they say of faults.
-use Rattle.std.proofs.Common.{◌≡◌, ℕ, ◌≤◌, true, List, [], ◌∷◌, ◌++◌, length, Option, None, slice_range, ◌∙◌, arith, nat_le}
-use Rattle.std.specs.List.{AllByRecursion}
-use Rattle.std.proofs.lemmas.Bool.{and_parts, leb-true}
-use Rattle.zv_var.specs.Format.{elements_fault}
-use Rattle.zv_ule.specs.declared.error.UleError.{UleError}
-use Rattle.zv_var.specs.Order.{in_order}
+use Rattle.zv_var.proofs.Common.{◌≡◌, ℕ, ◌≤◌, true, List, [], ◌∷◌, ◌++◌, length, Option, None, slice_range, ◌∙◌, arith, nat_le, AllByRecursion, and_parts}
+use Rattle.zv_var.proofs.Common.{elements_fault, UleError, in_order}
+use Rattle.std.proofs.lemmas.Bool.{leb-true}
 use Rattle.zv_var.proofs.Turns.{fault_later}
 
 -- what rises to n begins at most there
 before_end : (s n : ℕ) (es : List ℕ) → in_order s es n ≡ true → s ≤ n
 before_end s n [] e = leb-true s n e
-before_end s n (x ∷ xs) e =
-    let p = and_parts (nat_le s x) (in_order x xs n) e in
-    omega (arith, leb-true s x p.0, before_end x n xs p.1)
+before_end s n (x ∷ xs) e = grind (arith, before_end x n xs)
 
 -- any part between boundaries is an element
 pub none_between : (K : List ℕ → Option UleError) (d : List ℕ) (C : ℕ → Type 0)

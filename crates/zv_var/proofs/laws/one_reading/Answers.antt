@@ -1,7 +1,6 @@
-use Rattle.std.proofs.Common.{sym, ◌∙◌}
-use Rattle.zv_var.specs.Format.{elements}
-use Rattle.zv_var.proofs.Read.{Part_from_fault, valid_from_fault, fault_from_Part, elements_from_Part, encoding_from_Parts}
+use Rattle.zv_var.proofs.Common.{sym, ◌∙◌, elements}
 use Rattle.zv_var.proofs.Least.{least_of_list}
+use Rattle.zv_var.proofs.Read.{Part_from_fault, valid_from_fault, fault_from_Part, elements_from_Part, encoding_from_Parts}
 use Rattle.zv_var.proofs.Serialized.{Part_from_serialized}
 use Rattle.zv_var.proofs.laws.one_reading.Goals as goal
 

@@ -1,8 +1,7 @@
-use Rattle.std.proofs.Common.{◌≡◌, ◌-◌, length, Some, arith, sym}
-use Rattle.zv_var.specs.Serialize.{lengthless_len}
+use Rattle.zv_var.proofs.Common.{◌≡◌, ◌-◌, length, Some, arith, sym, lengthless_len}
 use Rattle.zv_var.proofs.Serialized.{long_len, product, some_len, spelled, spelled_codable}
-use Rattle.zv_var.proofs.serialize.compute_serializable_len_without_length.Goals as goal
 use Rattle.zv_var.proofs.serialize.compute_serializable_len_without_length.Goals.{Then-len-MAX}
+use Rattle.zv_var.proofs.serialize.compute_serializable_len_without_length.Goals as goal
 
 is : (g : _) (c : Then-len-MAX g) → lengthless_len g.A.EncodeAsVarULE.fits g.A.EncodeAsVarULE.spelling g.F.VarZeroVecFormat.W c.args.elements.now ≡
     Some c.saturating_add-len.result

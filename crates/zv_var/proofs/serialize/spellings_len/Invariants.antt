@@ -1,6 +1,5 @@
-use Rattle.std.proofs.Common.{◌≡◌, ◌-◌, ◌^◌, length, map, min, true, take}
-use Rattle.std.specs.List.{flat_map, list_all}
-use Rattle.zv_var.specs.Laws.{AreValid}
+use Rattle.zv_var.proofs.Common.{◌≡◌, ◌-◌, ◌^◌, length, map, true, take, flat_map, list_all, AreValid}
+use Rattle.std.proofs.Common.{min}
 use Rattle.zv_var.proofs.serialize.spellings_len.Given as goal
 
 abbrev pub invariant-loop-element : goal.invariant-loop-element

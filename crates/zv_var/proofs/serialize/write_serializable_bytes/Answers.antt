@@ -1,4 +1,4 @@
-use Rattle.std.proofs.Common.{length}
+use Rattle.zv_var.proofs.Common.{length}
 use Rattle.zv_var.proofs.Serialized.{count_fits, serialized_is, spelled_sound}
 use Rattle.zv_var.proofs.serialize.write_serializable_bytes.Goals as goal
 
@@ -11,5 +11,5 @@ returns-clause-spells g c =
     let a = g.A.EncodeAsVarULE in
     let f = g.F.VarZeroVecFormat in
     let s = serialized_is a.fits a.spelling f.W c.args.elements.now (length c.args.output.now) c.requires.len in
-    spelled_sound a.fits a.spelling g.T.ZvKind.fault f.W c.args.elements.now s.without f.width_positive f.field_small s.spelled
+    spelled_sound a.fits a.spelling f.W c.args.elements.now g.T.ZvKind.fault _ f.width_positive f.field_small s
     c.write_serializable_bytes_without_length.ensures.valid

@@ -1,10 +1,7 @@
-use Rattle.std.proofs.Common.{◌≡◌, ◌-◌, ◌*◌, ◌++◌, ℕ, List, length, map, ap, ◌∙◌, sym, arith}
-use Rattle.std.specs.List.{flat_map}
-use Rattle.zv_ule.specs.Bytes.{le}
-use Rattle.zv_var.specs.Format.{starts}
+use Rattle.zv_var.proofs.Common.{◌≡◌, ◌-◌, ◌*◌, ◌++◌, ℕ, List, length, map, ap, ◌∙◌, sym, arith, flat_map, le, starts}
 use Rattle.zv_var.proofs.Serialized.{IsSpelled, joined, product, spelled}
-use Rattle.zv_var.proofs.serialize.write_serializable_bytes_without_length.Goals as goal
 use Rattle.zv_var.proofs.serialize.write_serializable_bytes_without_length.Goals.{After-saturating_sub}
+use Rattle.zv_var.proofs.serialize.write_serializable_bytes_without_length.Goals as goal
 
 is : (g : _) (c : After-saturating_sub g) → IsSpelled g.A.EncodeAsVarULE.fits g.A.EncodeAsVarULE.spelling g.F.VarZeroVecFormat.W c.args.elements.now
     (length c.args.output.now)

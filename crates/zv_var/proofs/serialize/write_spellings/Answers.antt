@@ -1,4 +1,4 @@
-use Rattle.std.proofs.Common.{arith}
+use Rattle.zv_var.proofs.Common.{arith}
 use Rattle.zv_var.proofs.Serialized.{within}
 use Rattle.zv_var.proofs.serialize.write_spellings.Goals as goal
 

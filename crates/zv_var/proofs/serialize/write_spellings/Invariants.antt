@@ -1,6 +1,4 @@
-use Rattle.std.proofs.Common.{◌≡◌, length, take, map}
-use Rattle.std.specs.List.{flat_map}
-use Rattle.zv_var.specs.Laws.{AreValid}
+use Rattle.zv_var.proofs.Common.{◌≡◌, length, take, map, flat_map, AreValid}
 use Rattle.zv_var.proofs.serialize.write_spellings.Given as goal
 
 abbrev pub invariant-loop-element : goal.invariant-loop-element

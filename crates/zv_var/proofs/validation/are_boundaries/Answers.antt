@@ -1,6 +1,4 @@
-use Rattle.std.proofs.Common.{◌≡◌, ◌+◌, ◌-◌, arith, true, subst, sym}
-use Rattle.std.specs.List.{AllByRecursion}
-use Rattle.std.proofs.lemmas.Bool.{and_parts}
+use Rattle.zv_var.proofs.Common.{◌≡◌, ◌+◌, ◌-◌, arith, true, subst, sym, AllByRecursion, and_parts}
 use Rattle.zv_var.proofs.Turns.{mul_step}
 use Rattle.zv_var.proofs.validation.are_boundaries.Goals as goal
 

@@ -1,6 +1,4 @@
-use Rattle.std.proofs.Common.{◌≡◌, ◌-◌, ◌*◌, ◌≤◌, length, true}
-use Rattle.std.specs.List.{AllByRecursion}
-use Rattle.zv_var.specs.Format.{fields}
+use Rattle.zv_var.proofs.Common.{◌≡◌, ◌-◌, ◌*◌, ◌≤◌, length, true, AllByRecursion, fields}
 use Rattle.zv_var.proofs.validation.are_boundaries.Given as goal
 
 -- where the rest and what was read are good, the whole is

@@ -1,7 +1,5 @@
-use Rattle.std.proofs.Common.{◌≡◌, ℕ, ◌+◌, ◌-◌, ◌∷◌, List, Bool, ◌&&◌, nat_le, arith, ◌∙◌}
+use Rattle.zv_var.proofs.Common.{◌≡◌, ℕ, ◌+◌, ◌-◌, ◌∷◌, List, Bool, ◌&&◌, nat_le, arith, ◌∙◌, fields, in_order}
 use Rattle.std.proofs.Math.Bool.{and_assoc}
-use Rattle.zv_var.specs.Format.{fields}
-use Rattle.zv_var.specs.Order.{in_order}
 use Rattle.zv_var.proofs.Turns.{mul_step}
 use Rattle.zv_var.proofs.validation.are_in_order.Goals as goal
 

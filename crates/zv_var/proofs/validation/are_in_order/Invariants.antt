@@ -1,6 +1,4 @@
-use Rattle.std.proofs.Common.{◌≡◌, ◌-◌, ◌*◌, ◌≤◌, ◌&&◌, length}
-use Rattle.zv_var.specs.Format.{fields}
-use Rattle.zv_var.specs.Order.{in_order}
+use Rattle.zv_var.proofs.Common.{◌≡◌, ◌-◌, ◌*◌, ◌≤◌, ◌&&◌, length, fields, in_order}
 use Rattle.zv_var.proofs.validation.are_in_order.Given as goal
 
 abbrev pub invariant-loop-i : goal.invariant-loop-i

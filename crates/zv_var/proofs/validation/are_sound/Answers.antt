@@ -1,5 +1,4 @@
-use Rattle.std.proofs.Common.{◌≡◌, true, refl, sym}
-use Rattle.zv_var.specs.Format.{fields}
+use Rattle.zv_var.proofs.Common.{◌≡◌, true, refl, sym, fields}
 use Rattle.zv_var.proofs.Rising.{none_everywhere, none_between}
 use Rattle.zv_var.proofs.validation.are_sound.Goals as goal
 

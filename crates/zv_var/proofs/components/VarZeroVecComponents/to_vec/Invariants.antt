@@ -1,6 +1,4 @@
-use Rattle.std.proofs.Common.{◌≡◌, ◌++◌}
-use Rattle.zv_var.specs.Iters.{left_of}
-use Rattle.zv_var.specs.Views.{parts_of}
+use Rattle.zv_var.proofs.Common.{◌≡◌, ◌++◌, left_of, parts_of}
 use Rattle.zv_var.proofs.components.VarZeroVecComponents.to_vec.Given as goal
 
 abbrev pub invariant-loop-element : goal.invariant-loop-element

@@ -1,7 +1,5 @@
-use Rattle.std.proofs.Common.{◌≡◌}
+use Rattle.zv_var.proofs.Common.{◌≡◌, left_of, list_of}
 use Rattle.std.specs.Cmp.Lexicographic.{slice_cmp}
-use Rattle.zv_var.specs.Iters.{left_of}
-use Rattle.zv_var.specs.Views.{list_of}
 use Rattle.zv_var.proofs.slice.VarZeroSlice.order.Given as goal
 
 -- what is left compares as the whole

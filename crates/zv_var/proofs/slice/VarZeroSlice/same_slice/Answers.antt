@@ -1,13 +1,10 @@
-use Rattle.std.proofs.Common.{◌≡◌, ℕ, ◌+◌, ◌<◌, Bool, ◌&&◌, List, [], ◌∷◌, length, drop, get_or, Option, Some, None, MatchOption, is_some, not, true, false, ap}
-use Rattle.std.proofs.Common.{sym, ◌∙◌}
-use Rattle.std.proofs.lemmas.List.{drop_all, drop_more}
-use Rattle.std.specs.Cmp.Lexicographic.{pointwise}
+use Rattle.zv_var.proofs.Common.{◌≡◌, ℕ, ◌+◌, ◌<◌, Bool, ◌&&◌, List, [], ◌∷◌, length, drop, get_or, Option, Some, None, is_some, true, ap, sym, ◌∙◌, drop_more}
+use Rattle.zv_var.proofs.Common.{pointwise, element_of, is_same, left_of}
+use Rattle.std.proofs.Common.{false, MatchOption, not}
+use Rattle.std.proofs.lemmas.List.{drop_all}
 use Rattle.std.specs.Ordering.{is_eq}
-use Rattle.zv_ule.specs.Views.{element_of}
-use Rattle.zv_var.specs.Compared.{is_same}
-use Rattle.zv_var.specs.Iters.{left_of}
-use Rattle.zv_var.proofs.slice.VarZeroSlice.same_slice.Goals as goal
 use Rattle.zv_var.proofs.slice.VarZeroSlice.same_slice.Goals.{After-is_eq}
+use Rattle.zv_var.proofs.slice.VarZeroSlice.same_slice.Goals as goal
 
 negated : (b c : Bool) → not b ≡ c → b ≡ not c
 negated true c e = ap not e

@@ -1,8 +1,4 @@
-use Rattle.std.proofs.Common.{◌≡◌, drop}
-use Rattle.std.specs.Cmp.Lexicographic.{pointwise}
-use Rattle.zv_var.specs.Compared.{is_same}
-use Rattle.zv_var.specs.Iters.{left_of}
-use Rattle.zv_var.specs.Views.{list_of}
+use Rattle.zv_var.proofs.Common.{◌≡◌, drop, pointwise, is_same, left_of, list_of}
 use Rattle.zv_var.proofs.slice.VarZeroSlice.same_slice.Given as goal
 
 -- what is left is the same as the whole
