@@ -1,21 +1,18 @@
 -- What values are written as, one after another.
 use Rattle.zv_var.proofs.Common.{◌≡◌, ℕ, zero, suc, ◌+◌, ◌-◌, ◌*◌, ◌^◌, ◌<◌, ◌≤◌, Bool, true, List, [], ◌∷◌, length, take, get_or, map, refl, ap, ◌∙◌, sym}
 use Rattle.zv_var.proofs.Common.{arith, length-append, Option, Some, None, inr, is_some, take_at, flat_map, concat, list_all, le, length-le, UleError, Part}
-use Rattle.zv_var.proofs.Common.{codable, fits, list_fault, starts, starts_from, AreValid, lengthless_len}
+use Rattle.zv_var.proofs.Common.{codable, fits, list_fault, starts, starts_from, AreValid, suc-mul}
 use Rattle.std.proofs.Common.{add-one, IfSome}
-use Rattle.std.proofs.Math.Nat.{le-mul_of_pos_right, suc-mul}
+use Rattle.std.proofs.Math.Nat.{le-mul_of_pos_right}
 use Rattle.std.proofs.lemmas.List.{take_all, length-map}
 use Rattle.std.proofs.lemmas.List.Concat.{concat_is}
 use Rattle.std.proofs.lemmas.List.Folds.{flat_map-map, length-flat_map-take}
 use borrow.Rule.Slice.PartMut.{put_mid}
 use Rattle.zv_ule.proofs.Written.{flat_map-more, written_more}
-use Rattle.zv_var.specs.Serialize.{lengthless, serialized, serialized_len}
+use Rattle.zv_var.specs.Serialize.{lengthless_len, lengthless, serialized, serialized_len}
 use Rattle.zv_var.proofs.Encoding.{length-starts_from}
 use Rattle.zv_var.proofs.Fields.{length-flat_map-le, le_zero}
 use Rattle.zv_var.proofs.Read.{fault_from_Part}
-
-pub product : {v w m : ℕ} (n : ℕ) → v ≡ w → m ≡ n → v * m ≡ w * n
-product n e f = cc
 
 pub on_some : {X P : Type 0} (o : Option X) → P → IfSome o (λ _. P)
 on_some None h = tt
@@ -55,6 +52,9 @@ module _ {X : Type 0} (f : X → List ℕ) where
   start_at (x ∷ xs) i d h = rw (add-one, length-append) (starts_from_at (length (f x)) xs i d (omega arith))
 
   module _ (w : ℕ) where
+    pub length_spelled : (xs : List X) → length (lengthless w (map f xs)) ≡ w * (length xs - 1) + length (flat_map f xs)
+    length_spelled xs = simp (length-append, length-flat_map-le, length-starts, joined, length-map) refl
+
     -- one start more is written
     pub start_more : (xs : List X) (v i at s : ℕ) (x : X) (out new : List ℕ) → i + 1 < length xs → x ≡ get_or xs i x → v ≡ w → at ≡ i * w →
         s ≡ length (flat_map f (take i xs)) → length out ≡ w * (length xs - 1) → new ≡ le w (s + length (f x)) →
@@ -98,31 +98,18 @@ pub record IsSpelled {X : Type 0} (p : X → Bool) (f : X → List ℕ) (w : ℕ
   pub below : n < 256 ^ w - 1
 
 module _ {X : Type 0} (p : X → Bool) (f : X → List ℕ) (w : ℕ) (xs : List X) where
-  pub length_spelled : length (lengthless w (map f xs)) ≡ w * (length xs - 1) + length (flat_map f xs)
-  length_spelled = simp (length-append, length-flat_map-le, length-starts, joined, length-map) refl
-
-  -- what the code finds of the length
-  pub long_len : list_all p xs ≡ true → 256 ^ w - 1 ≤ w * (length xs - 1) + length (flat_map f xs) → lengthless_len p f w xs ≡ None
-  long_len all h = let l = length_spelled in grind arith
-
-  pub some_len : (n : ℕ) → list_all p xs ≡ true → n ≡ w * (length xs - 1) + length (flat_map f xs) → n < 256 ^ w - 1 → lengthless_len p f w xs ≡ Some n
-  some_len n all is h = let l = length_spelled in grind arith
-
   pub spelled : (n : ℕ) → lengthless_len p f w xs ≡ Some n → IsSpelled p f w xs n
-  spelled n e = let l = length_spelled in record { fit = grind arith; is = grind arith; below = grind arith }
+  spelled n e = let l = length_spelled f w xs in record { fit = grind arith; is = grind arith; below = grind arith }
 
-  -- so values of which a length is found can be written
-  pub spelled_codable : (n : ℕ) → 0 < w → 256 ^ w ≤ 2 ^ 32 → IsSpelled p f w xs n → codable w (map f xs) ≡ true
-  spelled_codable n some narrow s = below_codable f w some narrow xs (omega (arith, s))
-
-  -- and what is written has no fault, if the spellings are elements
+  -- what is written has no fault, if the spellings are elements
   pub spelled_sound : (K : List ℕ → Option UleError) (n : ℕ) → 0 < w → 256 ^ w ≤ 2 ^ 32 → IsSpelled p f w xs n → AreValid K (map f xs) →
       list_fault w K (serialized w (map f xs)) ≡ None
-  spelled_sound K n some narrow s valid = fault_from_Part w K _ (map f xs) some (Part_from_serialized w (map f xs) (spelled_codable n some narrow s)) valid
+  spelled_sound K n some narrow s valid =
+      fault_from_Part w K _ (map f xs) some (Part_from_serialized w (map f xs) (below_codable f w some narrow xs (omega (arith, s)))) valid
 
   -- what a length with the count says of the values
   pub serialized_is : (m : ℕ) → serialized_len p f w xs ≡ Some m → IsSpelled p f w xs (length (lengthless w (map f xs)))
-  serialized_is m e = let l = length_spelled in record { fit = grind arith; is = l; below = grind arith }
+  serialized_is m e = let l = length_spelled f w xs in record { fit = grind arith; is = l; below = grind arith }
 
   pub serialized_some : is_some (serialized_len p f w xs) ≡ true → serialized_len p f w xs ≡ Some (length (serialized w (map f xs)))
   serialized_some h = let l = length-append (le w (length (map f xs))) (lengthless w (map f xs)) in let c = length-le w (length (map f xs)) in grind arith

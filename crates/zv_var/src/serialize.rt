@@ -13,6 +13,7 @@ ghost use Rattle.zv_var.specs.Serialize.{lengthless, lengthless_len, serialized,
 use std::alloc::Global;
 use zv_ule::{EncodeAsVarULE, NoMemory, VarZeroVecFormat, ZvKind, write_count, write_start};
 
+#[tactic(auto, using(crate::proofs::Serialized::length_spelled, crate::proofs::Serialized::below_codable))]
 /// How many bytes the starts and the spellings of values have, as a list without its count. `None`
 /// comes exactly where that reaches `F::MAX` or a value has no spelling.
 pub fn compute_serializable_len_without_length<
@@ -65,6 +66,7 @@ pub fn compute_serializable_len<T: ZvKind, A: EncodeAsVarULE<T>, F: VarZeroVecFo
     compute_serializable_len_without_length::<T, A, F>(elements)?.checked_add(F::W as u32)
 }
 
+#[tactic(auto, using(crate::proofs::Serialized::within))]
 /// Writes the spellings of values, one after another, over the whole of `out`.
 fn write_spellings<T: ZvKind, A: EncodeAsVarULE<T>>(elements: &[A], out: &mut [u8])
     requires usable { IsTrue T.usable }
@@ -102,6 +104,7 @@ fn write_starts<T: ZvKind, A: EncodeAsVarULE<T>, F: VarZeroVecFormat>(
     }
 }
 
+#[tactic(auto, using(crate::proofs::Serialized::length_spelled, crate::proofs::Serialized::joined))]
 /// Writes values as a list without its count, over the whole of `output`.
 pub fn write_serializable_bytes_without_length<
     T: ZvKind,

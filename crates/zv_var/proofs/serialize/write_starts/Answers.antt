@@ -1,8 +1,7 @@
-use Rattle.zv_var.proofs.Common.{ℕ, ◌+◌, length, arith, rules, ap, ◌∙◌, le}
+use Rattle.zv_var.proofs.Common.{ℕ, ◌+◌, length, arith, rules, ap, ◌∙◌, le, suc-mul, ◌*◌, ◌-◌, ◌≤◌}
+use Rattle.std.proofs.Math.Nat.{mul-le-mul_right}
 use Rattle.zv_var.proofs.Serialized.{spelled_more, start_more, starts_written, within}
 use Rattle.zv_var.proofs.serialize.write_starts.Goals as goal
-use Rattle.std.proofs.Math.Nat.{mul-le-mul_right, suc-mul}
-use Rattle.zv_var.proofs.Common.{◌*◌, ◌-◌, ◌≤◌}
 
 pub overflow_add-start : goal.overflow_add-start
 overflow_add-start g c =

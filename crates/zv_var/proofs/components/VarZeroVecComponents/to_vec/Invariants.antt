@@ -1,4 +1,5 @@
-use Rattle.zv_var.proofs.Common.{◌≡◌, ◌++◌, left_of, parts_of}
+use Rattle.zv_var.proofs.Common.{◌≡◌, ◌++◌, left_of}
+use Rattle.zv_var.specs.Views.{parts_of}
 use Rattle.zv_var.proofs.components.VarZeroVecComponents.to_vec.Given as goal
 
 abbrev pub invariant-loop-element : goal.invariant-loop-element

@@ -1,8 +1,9 @@
 use Rattle.zv_var.proofs.Common.{◌≡◌, ℕ, ◌+◌, ◌<◌, Bool, ◌&&◌, List, [], ◌∷◌, length, drop, get_or, Option, Some, None, is_some, true, ap, sym, ◌∙◌, drop_more}
-use Rattle.zv_var.proofs.Common.{pointwise, element_of, is_same, left_of}
+use Rattle.zv_var.proofs.Common.{pointwise, is_same, left_of}
 use Rattle.std.proofs.Common.{false, MatchOption, not}
 use Rattle.std.proofs.lemmas.List.{drop_all}
 use Rattle.std.specs.Ordering.{is_eq}
+use Rattle.zv_ule.specs.Views.{element_of}
 use Rattle.zv_var.proofs.slice.VarZeroSlice.same_slice.Goals.{After-is_eq}
 use Rattle.zv_var.proofs.slice.VarZeroSlice.same_slice.Goals as goal
 
