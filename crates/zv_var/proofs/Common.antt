@@ -1,5 +1,5 @@
 -- The names that several proofs cite, passed on from one place. Declares nothing.
-pub use Rattle.std.proofs.Common.{◌≡◌, length, ◌-◌, arith, ℕ, ◌*◌, ◌∙◌, ◌∷◌, ◌≤◌, List, [], sym, ◌+◌, Option, refl, true, ◌++◌, None, ap, drop, ◌<◌, Some, suc}
+pub use Rattle.std.proofs.Common.{◌≡◌, length, ◌-◌, arith, ℕ, ◌*◌, ◌∙◌, ◌∷◌, ◌≤◌, List, [], refl, sym, ◌+◌, Option, true, ◌++◌, None, ap, drop, ◌<◌, Some, suc}
 pub use Rattle.std.proofs.Common.{◌^◌, take, length-append, slice_range, zero, get_or, length-drop, map, Bool, append_assoc, inr, ◌&&◌, inl, is_some, nat_le}
 pub use Rattle.std.proofs.Common.{rules, subst}
 pub use Rattle.std.proofs.Math.Nat.{mul-suc, mul-zero, suc-mul}

@@ -4,14 +4,10 @@ use Rattle.zv_var.proofs.Serialized.{spelled_more, start_more, starts_written, w
 use Rattle.zv_var.proofs.serialize.write_starts.Goals as goal
 
 pub overflow_add-start : goal.overflow_add-start
-overflow_add-start g c =
-    let k = within g.A.EncodeAsVarULE.spelling c.args.elements.now c.loop-index.index c.index-elements-index.result (omega arith) c.index-elements-index.is in
-    omega (arith, g.F.VarZeroVecFormat.field_small)
+overflow_add-start g c = grind (arith, within g.A.EncodeAsVarULE.spelling c.args.elements.now c.loop-index.index, g.F.VarZeroVecFormat.field_small)
 
 pub write_start-requires-clause-fits : goal.write_start-requires-clause-fits
-write_start-requires-clause-fits g c =
-    let k = within g.A.EncodeAsVarULE.spelling c.args.elements.now c.loop-index.index c.index-elements-index.result (omega arith) c.index-elements-index.is in
-    omega arith
+write_start-requires-clause-fits g c = grind (arith, within g.A.EncodeAsVarULE.spelling c.args.elements.now c.loop-index.index)
 
 pub slice_bounds-write_start-end : goal.slice_bounds-write_start-end
 slice_bounds-write_start-end g c =
