@@ -91,29 +91,27 @@ module _ {X : Type 0} (f : X → List ℕ) where
         let m = length-map xs f in
         grind arith
 
--- What a length says of the values.
-pub record IsSpelled {X : Type 0} (p : X → Bool) (f : X → List ℕ) (w : ℕ) (xs : List X) (n : ℕ) : Type 0 where
-  pub fit : list_all p xs ≡ true
-  pub is : n ≡ w * (length xs - 1) + length (flat_map f xs)
-  pub below : n < 256 ^ w - 1
-
 module _ {X : Type 0} (p : X → Bool) (f : X → List ℕ) (w : ℕ) (xs : List X) where
-  pub spelled : (n : ℕ) → lengthless_len p f w xs ≡ Some n → IsSpelled p f w xs n
-  spelled n e = let l = length_spelled f w xs in record { fit = grind arith; is = grind arith; below = grind arith }
+  sound : (K : List ℕ → Option UleError) → 0 < w → 256 ^ w ≤ 2 ^ 32 → w * (length xs - 1) + length (flat_map f xs) < 256 ^ w - 1 →
+      AreValid K (map f xs) → list_fault w K (serialized w (map f xs)) ≡ None
+  sound K some narrow below valid =
+      fault_from_Part w K _ (map f xs) some (Part_from_serialized w (map f xs) (below_codable f w some narrow xs below)) valid
 
-  -- what is written has no fault, if the spellings are elements
-  pub spelled_sound : (K : List ℕ → Option UleError) (n : ℕ) → 0 < w → 256 ^ w ≤ 2 ^ 32 → IsSpelled p f w xs n → AreValid K (map f xs) →
-      list_fault w K (serialized w (map f xs)) ≡ None
-  spelled_sound K n some narrow s valid =
-      fault_from_Part w K _ (map f xs) some (Part_from_serialized w (map f xs) (below_codable f w some narrow xs (omega (arith, s)))) valid
+  -- where a length is found, what is written has no fault, if the spellings are elements
+  pub lengthless_sound : (K : List ℕ → Option UleError) (n : ℕ) → 0 < w → 256 ^ w ≤ 2 ^ 32 → lengthless_len p f w xs ≡ Some n →
+      AreValid K (map f xs) → list_fault w K (serialized w (map f xs)) ≡ None
+  lengthless_sound K n some narrow e valid = let l = length_spelled f w xs in sound K some narrow (grind arith) valid
 
-  -- what a length with the count says of the values
-  pub serialized_is : (m : ℕ) → serialized_len p f w xs ≡ Some m → IsSpelled p f w xs (length (lengthless w (map f xs)))
-  serialized_is m e = let l = length_spelled f w xs in record { fit = grind arith; is = l; below = grind arith }
+  pub serialized_sound : (K : List ℕ → Option UleError) (m : ℕ) → 0 < w → 256 ^ w ≤ 2 ^ 32 → serialized_len p f w xs ≡ Some m →
+      AreValid K (map f xs) → list_fault w K (serialized w (map f xs)) ≡ None
+  serialized_sound K m some narrow e valid = let l = length_spelled f w xs in sound K some narrow (grind arith) valid
 
   pub serialized_some : is_some (serialized_len p f w xs) ≡ true → serialized_len p f w xs ≡ Some (length (serialized w (map f xs)))
   serialized_some h = let l = length-append (le w (length (map f xs))) (lengthless w (map f xs)) in let c = length-le w (length (map f xs)) in grind arith
 
   -- the count fits a field
   pub count_fits : (m : ℕ) → 0 < w → serialized_len p f w xs ≡ Some m → length xs < 256 ^ w
-  count_fits m some e = omega (arith, serialized_is m e, le-mul_of_pos_right (length xs - 1) some)
+  count_fits m some e =
+      let l = length_spelled f w xs in
+      let k = le-mul_of_pos_right (length xs - 1) some in
+      grind arith

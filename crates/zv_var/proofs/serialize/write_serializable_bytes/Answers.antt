@@ -1,5 +1,5 @@
 use Rattle.zv_var.proofs.Common.{length}
-use Rattle.zv_var.proofs.Serialized.{count_fits, serialized_is, spelled_sound}
+use Rattle.zv_var.proofs.Serialized.{count_fits, serialized_sound}
 use Rattle.zv_var.proofs.serialize.write_serializable_bytes.Goals as goal
 
 pub write_count-requires-clause-fits : goal.write_count-requires-clause-fits
@@ -10,6 +10,5 @@ pub returns-clause-spells : goal.returns-clause-spells
 returns-clause-spells g c =
     let a = g.A.EncodeAsVarULE in
     let f = g.F.VarZeroVecFormat in
-    let s = serialized_is a.fits a.spelling f.W c.args.elements.now (length c.args.output.now) c.requires.len in
-    spelled_sound a.fits a.spelling f.W c.args.elements.now g.T.ZvKind.fault _ f.width_positive f.field_small s
+    serialized_sound a.fits a.spelling f.W c.args.elements.now g.T.ZvKind.fault _ f.width_positive f.field_small c.requires.len
     c.write_serializable_bytes_without_length.ensures.valid
