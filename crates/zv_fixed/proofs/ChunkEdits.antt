@@ -1,43 +1,97 @@
--- Bytes in which some chunks become others.
-use Rattle.std.proofs.Common.{◌≡◌, ℕ, zero, suc, ◌+◌, ◌-◌, ◌*◌, ◌/◌, ◌%◌, ◌<◌, ◌≤◌, List, [], ◌∷◌, ◌++◌, length, take, drop, map, get_or, Option, Some, None}
-use Rattle.std.proofs.Common.{refl, ap, sym, ◌∙◌, arith, length-append, length-drop}
-use Rattle.std.specs.Prelude.{insert, remove, slice_get, slice_range, slice_set, IsTrue, OnOk, OnErr, Result, Ok, Err}
+-- Bytes that are chunks one after another, edits that leave such bytes, and the values in them.
+use Rattle.std.proofs.Common.{◌≡◌, ℕ, zero, suc, ◌+◌, ◌-◌, ◌*◌, ◌/◌, ◌<◌, ◌≤◌, List, [], ◌∷◌, ◌++◌, length, take, drop, map, Option, None, Some, Bool}
+use Rattle.std.proofs.Common.{Result, Ok, Err, OnErr, refl, ap, sym, ◌∙◌, arith, subst, append_assoc, append-nil, length-append, length-drop}
+use Rattle.std.specs.Prelude.{insert, remove, slice_get, slice_range, slice_set, IsTrue, OnOk}
 use Rattle.std.specs.List.{splice, take-map, drop-map}
-use Rattle.std.specs.Option.{option_map}
-use Rattle.std.proofs.Math.Nat.{suc-mul, div-mul-le_self}
-use Rattle.std.proofs.lemmas.List.{take-append-le, drop-append-le, take-append-drop, take_at, drop_at, take_all, nil_from_length, length-take-le, take_more}
-use Rattle.std.proofs.lemmas.List.{map-append, map-set, set_split}
-use Rattle.std.proofs.lemmas.Option.{slice_get-map, slice_get-get_or, get_or_from_slice_get}
-use Rattle.std.proofs.lemmas.Nat.{mul-le, div-mul-add, mod-mul-add, div-add-mod', mod_below}
+use Rattle.std.proofs.Math.Nat.{suc-mul, mul-sub, mul_comm, div-mul-le_self}
+use Rattle.std.proofs.Math.Seq.{take-append-add, drop-append-add}
+use Rattle.std.proofs.lemmas.List.{take-append-drop, length-take-le, nil_from_length, set_split, map-append, map-set, take_all, take_more}
+use Rattle.std.proofs.lemmas.Nat.{div-mul-add, mod-mul-add, div-add-mod', mul-le}
+use Rattle.std.proofs.lemmas.Option.{get_or_from_slice_get}
+use Rattle.std.proofs.lemmas.Result.{on_ok_weaker}
 use Rattle.zv_ule.specs.declared.error.TyName.{TyName}
 use Rattle.zv_ule.specs.declared.error.UleError.{UleError}
 use Rattle.zv_ule.specs.Chunks.{chunks, chunks_of, first_fault, chunks_fault}
 use Rattle.zv_ule.specs.Fixed.{is_width}
-use Rattle.zv_ule.specs.laws.Joined.{or_none, length-chunks}
+use Rattle.zv_ule.specs.Kinds.{IsFixedKind}
+use Rattle.zv_ule.specs.laws.Joined.{or_none, front_of, back_of, length-chunks}
 use Rattle.zv_ule.proofs.At.{place}
-use Rattle.zv_ule.proofs.ChunkFaults.{whole_fault, width_pos}
+use Rattle.zv_ule.proofs.ChunkFaults.{whole_fault, width_pos, one_good}
 use Rattle.zv_ule.proofs.Lists.{whole_if}
+use Rattle.zv_fixed.specs.declared.cow_bytes.CowBytes.{CowBytes}
+use Rattle.zv_fixed.specs.CowBytes.{bytes_in, IsUnchanged}
 
--- ---- chunks
+-- the bytes are these chunks, each of width w and without a fault
+data AreChunks (w : ℕ) (f : List ℕ → Option UleError) : List ℕ → List (List ℕ) → Type 0 where
+  none : AreChunks w f [] []
+  more : {c b : List ℕ} {cs : List (List ℕ)} → length c ≡ w → f c ≡ None → AreChunks w f b cs → AreChunks w f (c ++ b) (c ∷ cs)
 
-chunks-append : (w p q : ℕ) (x y : List ℕ) → length x ≡ p * w → chunks w (p + q) (x ++ y) ≡ chunks w p x ++ chunks w q y
-chunks-append w zero q x y long = let none : zero + q ≡ q = omega arith in rw (none, nil_from_length x (omega (arith, long))) refl
-chunks-append w (suc p) q x y long =
-    let count : suc p + q ≡ suc (p + q) = omega arith in
-    let le : w ≤ length x = omega (arith, long, suc-mul p w) in
-    let later = chunks-append w p q (drop w x) y (omega (arith, long, suc-mul p w, length-drop w x)) in
-    rw (count, take-append-le w x y le, drop-append-le w x y le, later) refl
+module _ {w : ℕ} {f : List ℕ → Option UleError} where
+  joined : {a b : List ℕ} {cs ds : List (List ℕ)} → AreChunks w f a cs → AreChunks w f b ds → AreChunks w f (a ++ b) (cs ++ ds)
+  joined none q = q
+  joined (more long good p) q = rw append_assoc (more long good (joined p q))
 
--- the first i chunks, and the others
-split_chunks : (w n i m : ℕ) (b : List ℕ) → n ≡ i + m → i * w ≤ length b →
-    (take i (chunks w n b) ≡ chunks w i (take (i * w) b)) × (drop i (chunks w n b) ≡ chunks w m (drop (i * w) b))
-split_chunks w n i m b count le =
-    let front = take (i * w) b in
-    let back = drop (i * w) b in
-    let all : chunks w n b ≡ chunks w i front ++ chunks w m back =
-    ap (chunks w n) (sym (take-append-drop (i * w) b)) ∙ rw count (chunks-append w i m front back (length-take-le (i * w) b le)) in
-    let long = length-chunks w i front in
-    (ap (take i) all ∙ take_at (chunks w i front) _ i long, ap (drop i) all ∙ drop_at (chunks w i front) _ i long)
+  -- the first i chunks, and the others
+  parted : (i : ℕ) {b : List ℕ} {cs : List (List ℕ)} → AreChunks w f b cs → i ≤ length cs →
+      AreChunks w f (take (i * w) b) (take i cs) × AreChunks w f (drop (i * w) b) (drop i cs)
+  parted zero p le = let start : 0 * w ≡ 0 = omega arith in rw start (none, p)
+  parted (suc i) none le = absurd (omega arith)
+  parted (suc i) (more {c} {b} long good p) le =
+      let next : suc i * w ≡ length c + i * w = omega (arith, suc-mul i w) in
+      let rest = parted i p (omega arith) in
+      rw (next, take-append-add, drop-append-add) (more long good rest.0, rest.1)
+
+  counted : {b : List ℕ} {cs : List (List ℕ)} → AreChunks w f b cs → (length b ≡ length cs * w) × (chunks w (length cs) b ≡ cs) × (first_fault f cs ≡ None)
+  counted none = (omega arith, refl, refl)
+  counted (more {c} {b} {cs} long good p) =
+      let rest = counted p in (
+        omega (arith, length-append c b, rest.0, suc-mul (length cs) w),
+        rw (front_of w c b long, back_of w c b long, rest.1) refl,
+        rw good rest.2,
+      )
+
+  read_chunks : (n : ℕ) (b : List ℕ) → length b ≡ n * w → first_fault f (chunks w n b) ≡ None → AreChunks w f b (chunks w n b)
+  read_chunks zero b long good = rw (nil_from_length b (omega arith)) none
+  read_chunks (suc n) b long good =
+      let both = or_none (f (take w b)) (first_fault f (chunks w n (drop w b))) good in
+      let le : w ≤ length b = omega (arith, suc-mul n w) in
+      subst (λ x. AreChunks w f x (chunks w (suc n) b)) (take-append-drop w b)
+      (more (length-take-le w b le) both.0 (read_chunks n (drop w b) (omega (arith, length-drop w b, suc-mul n w)) both.1))
+
+  -- bytes without a fault are their chunks
+  are_chunks : (ty : TyName) (b : List ℕ) → chunks_fault ty w f b ≡ None → AreChunks w f b (chunks_of w b)
+  are_chunks ty b good = let whole = whole_if ty w f b good in read_chunks (length b / w) b (omega (arith, div-add-mod' (length b) w)) whole.1
+
+  -- and the other way round
+  they_are : {b : List ℕ} {cs : List (List ℕ)} → IsTrue (is_width w) → AreChunks w f b cs → chunks_of w b ≡ cs
+  they_are {b} {cs} usable p =
+      let all = counted p in
+      let long : length b ≡ length cs * w + 0 = omega arith in
+      ap (λ n. chunks w (n / w) b) long ∙ rw (div-mul-add (length cs) w 0 (width_pos w usable)) all.1
+
+  no_fault : (ty : TyName) {b : List ℕ} {cs : List (List ℕ)} → IsTrue (is_width w) → AreChunks w f b cs → chunks_fault ty w f b ≡ None
+  no_fault ty {b} {cs} usable p =
+      let long : length b ≡ length cs * w + 0 = omega (arith, (counted p).0) in
+      whole_fault ty w f b (rw long (mod-mul-add (length cs) w 0 (width_pos w usable))) ∙ rw (they_are usable p) (counted p).2
+
+-- the chunks from i to before j alone
+module _ (w i j a e : ℕ) (held old new : List ℕ) (ty : TyName) (f : List ℕ → Option UleError) (usable : IsTrue (is_width w)) (same : held ≡ old)
+    (good : chunks_fault ty w f held ≡ None) (from : a ≡ i * w) (to : e ≡ j * w) (order : i ≤ j) (le : j ≤ length (chunks_of w old))
+    (is : new ≡ slice_range held a e) where
+  kept : AreChunks w f new (slice_range (chunks_of w old) i j)
+  kept =
+      let count : j * w - i * w ≡ (j - i) * w = rw (mul_comm j w, mul_comm i w, mul_comm (j - i) w) (sym (mul-sub w j i)) in
+      let all : AreChunks w f old (chunks_of w old) = are_chunks ty old (rw (← same) good) in
+      rw (is, same, from, to, count) (parted (j - i) (parted i all (omega arith)).1 (rw length-drop (omega arith))).0
+
+  pub kept_good : chunks_fault ty w f new ≡ None
+  kept_good = no_fault ty usable kept
+
+  pub kept_chunks : chunks_of w new ≡ slice_range (chunks_of w old) i j
+  kept_chunks = they_are usable kept
+
+  pub kept_values : {X : Type 0} (value : List ℕ → X) (vs : List X) → map value (chunks_of w old) ≡ vs → map value (chunks_of w new) ≡ slice_range vs i j
+  kept_values value vs read = rw (kept_chunks, ← read) (simp (take-map, drop-map))
 
 -- where a chunk starts
 pub start_within : (w i : ℕ) (b : List ℕ) → i ≤ length (chunks_of w b) → i * w ≤ length b
@@ -45,151 +99,84 @@ start_within w i b le =
     let n = length b / w in
     omega (arith, mul-le i w n w (omega (arith, le, length-chunks w n b)) (omega arith), div-mul-le_self (length b) w)
 
-add_times : (a b w : ℕ) → (a + b) * w ≡ a * w + b * w
-add_times a b w = grind arith
+-- and where it ends
+pub end_within : (w i a e : ℕ) (held old : List ℕ) → held ≡ old → a ≡ i * w → e ≡ a + w → i < length (chunks_of w old) → e ≤ length held
+end_within w i a e held old same at to lt = omega (arith, place w old i lt, ap length same)
 
--- ---- faults
+-- an element of a kind of one width is one chunk
+pub one_chunk : {usable : Bool} {fault f : List ℕ → Option UleError} {ty : TyName} {w : ℕ} → IsFixedKind usable fault ty w f → (c : List ℕ) → fault c ≡ None →
+    (length c ≡ w) × (f c ≡ None)
+one_chunk {f = f} {ty} {w} kind c good = one_good ty w f c (sym (kind.errors c) ∙ good)
 
-module _ (f : List ℕ → Option UleError) where
-  faults_joined : (xs ys : List (List ℕ)) → first_fault f xs ≡ None → first_fault f ys ≡ None → first_fault f (xs ++ ys) ≡ None
-  faults_joined [] ys h k = k
-  faults_joined (x ∷ xs) ys h k = let both = or_none (f x) (first_fault f xs) h in rw both.0 (faults_joined xs ys both.1 k)
+-- ---- edits that may fail, of the chunks from place i on: a is where they start, and e where they end
 
-  -- of the first i, and of the others
-  faults_split : (i : ℕ) (xs : List (List ℕ)) → first_fault f xs ≡ None → (first_fault f (take i xs) ≡ None) × (first_fault f (drop i xs) ≡ None)
-  faults_split zero xs h = (refl, h)
-  faults_split (suc i) [] h = (refl, refl)
-  faults_split (suc i) (x ∷ xs) h =
-      let both = or_none (f x) (first_fault f xs) h in
-      let rest = faults_split i xs both.1 in (rw both.0 rest.0, rest.1)
-
--- ---- an edit
-
--- the chunks are these now, and good where the added ones are
-pub record IsEdit (w : ℕ) (old new : List ℕ) (added cs : List (List ℕ)) : Type 0 where
-  pub chunks : chunks_of w new ≡ cs
-  pub good : (ty : TyName) (f : List ℕ → Option UleError) → first_fault f added ≡ None → chunks_fault ty w f old ≡ None → chunks_fault ty w f new ≡ None
-
--- the chunks from i to before j become the k chunks of c
-pub edit : (w i j k : ℕ) (b c : List ℕ) (added : List (List ℕ)) → 0 < w → i ≤ j → j ≤ length (chunks_of w b) → length c ≡ k * w → chunks w k c ≡ added →
-    IsEdit w b (splice b (i * w) (j * w) c) added (splice (chunks_of w b) i j added)
-edit w i j k b c added pos order le long told =
-    let n = length b / w in
-    let m = n - j in
-    let q = i + (k + m) in
-    let r = length b % w in
-    let count : n ≡ j + m = omega (arith, le, length-chunks w n b) in
-    let split : n ≡ i + (n - i) = omega (arith, order, count) in
-    let parts : length b ≡ j * w + m * w + r = omega (arith, div-add-mod' (length b) w, ap (λ x. x * w) count, add_times j m w) in
-    let first : i * w ≤ j * w = mul-le i w j w order (omega arith) in
-    let front : length (take (i * w) b) ≡ i * w = length-take-le (i * w) b (omega (arith, parts, first)) in
-    let sum : length (splice b (i * w) (j * w) c) ≡ q * w + r =
-    simp (length-append, length-drop) (omega (arith, front, long, parts, add_times i (k + m) w, add_times k m w)) in
-    let below : r < w = mod_below (length b) w pos in
-    let heads : take i (chunks_of w b) ≡ chunks w i (take (i * w) b) = (split_chunks w n i (n - i) b split (omega (arith, parts, first))).0 in
-    let tails : drop j (chunks_of w b) ≡ chunks w m (drop (j * w) b) = (split_chunks w n j m b count (omega (arith, parts))).1 in
-    let are : chunks_of w (splice b (i * w) (j * w) c) ≡ splice (chunks_of w b) i j added =
-    ap (λ x. chunks w x (splice b (i * w) (j * w) c)) (ap (λ x. x / w) sum ∙ div-mul-add q w r below)
-    ∙ chunks-append w i (k + m) (take (i * w) b) (c ++ drop (j * w) b) front
-    ∙ rw (heads, tails, chunks-append w k m c (drop (j * w) b) long, told) refl in
-    record {
-      chunks = are;
-      good = λ ty f h all.
-          let p = whole_if ty w f b all in
-          whole_fault ty w f _ (ap (λ x. x % w) sum ∙ mod-mul-add q w r below ∙ p.0) ∙ ap (first_fault f) are
-          ∙ faults_joined f (take i (chunks_of w b)) _ ((faults_split f i _ p.1).0) (faults_joined f added _ h ((faults_split f j _ p.1).1));
-    }
-
--- the chunks from i to before j alone
-pub part : (w i j : ℕ) (b : List ℕ) → 0 < w → i ≤ j → j ≤ length (chunks_of w b) →
-    IsEdit w b (slice_range b (i * w) (j * w)) [] (slice_range (chunks_of w b) i j)
-part w i j b pos order le =
-    let n = length b / w in
-    let k = j - i in
-    let low = drop (i * w) b in
-    let held = take (k * w) low in
-    let count : n ≡ j + (n - j) = omega (arith, le, length-chunks w n b) in
-    let sum : i + k ≡ j = omega (arith, order) in
-    let times : j * w ≡ i * w + k * w = ap (λ x. x * w) (sym sum) ∙ add_times i k w in
-    let size : length b ≡ j * w + (n - j) * w + length b % w =
-    omega (arith, div-add-mod' (length b) w, ap (λ x. x * w) count, add_times j (n - j) w) in
-    let first = split_chunks w n i (n - i) b (omega (arith, order, count)) (omega (arith, size, times)) in
-    let left : length low ≡ k * w + (n - j) * w + length b % w = omega (arith, length-drop (i * w) b, size, times) in
-    let second = split_chunks w (n - i) k (n - j) low (omega (arith, order, count)) (omega (arith, left)) in
-    let long : length held ≡ k * w + 0 = length-take-le (k * w) low (omega (arith, left)) ∙ omega arith in
-    let same : slice_range b (i * w) (j * w) ≡ held = ap (λ m. take m low) (omega (arith, times)) in
-    let are : chunks_of w held ≡ slice_range (chunks_of w b) i j =
-    ap (λ m. chunks w m held) (ap (λ m. m / w) long ∙ div-mul-add k w 0 pos) ∙ sym (ap (take k) first.1 ∙ second.0) in
-    record {
-      chunks = ap (chunks_of w) same ∙ are;
-      good = λ ty f h all.
-          let kept = faults_split f k (drop i (chunks_of w b)) ((faults_split f i _ ((whole_if ty w f b all).1)).1) in
-          ap (chunks_fault ty w f) same
-          ∙ (whole_fault ty w f held (ap (λ x. x % w) long ∙ mod-mul-add k w 0 pos) ∙ (ap (first_fault f) are ∙ kept.0));
-    }
-
--- one chunk alone
-pub one_chunk : (w : ℕ) (c : List ℕ) → length c ≡ w → chunks w 1 c ≡ c ∷ []
-one_chunk w c long = ap (λ l. l ∷ []) (take_all w c (omega (arith, long)))
-
--- what holds after either answer of a call
-pub after_either : {T E P Q R : Type 0} (r : Result T E) → OnOk r P → OnErr r Q → (P → R) → (Q → R) → R
-after_either (Ok x) p q f g = f p
-after_either (Err e) p q f g = g q
-
-module _ (w i a : ℕ) (held old new : List ℕ) (usable : IsTrue (is_width w)) (same : held ≡ old) (at : a ≡ i * w) where
-  pub inserted : (c : List ℕ) → i ≤ length (chunks_of w old) → length c ≡ w → new ≡ splice held a a c →
-      IsEdit w held new (c ∷ []) (insert (chunks_of w old) i c)
-  inserted c le long is = rw (is, same, at) (edit w i i 1 old c (c ∷ []) (width_pos w usable) (omega arith) le (omega (arith, long)) (one_chunk w c long))
-
-  pub end_in : (e : ℕ) → i < length (chunks_of w old) → e ≡ a + w → e ≤ length held
-  end_in e lt is = omega (arith, place w old i lt, ap length same, is, at)
-
-  pub replaced : (c : List ℕ) (e : ℕ) → i < length (chunks_of w old) → length c ≡ w → e ≡ a + w → new ≡ splice held a e c →
-      IsEdit w held new (c ∷ []) (slice_set (chunks_of w old) i c)
-  replaced c e lt long end is =
-      let next : e ≡ suc i * w = omega (arith, end, at, suc-mul i w) in
-      rw (set_split (chunks_of w old) i c lt, is, same, next, at)
-      (edit w i (suc i) 1 old c (c ∷ []) (width_pos w usable) (omega arith) (omega (arith, lt)) (omega (arith, long)) (one_chunk w c long))
-
-  pub removed : (e : ℕ) → i < length (chunks_of w old) → e ≡ a + w → new ≡ splice held a e [] → IsEdit w held new [] (remove (chunks_of w old) i)
-  removed e lt end is =
-      let next : e ≡ suc i * w = omega (arith, end, at, suc-mul i w) in
-      rw (is, same, next, at) (edit w i (suc i) 0 old [] [] (width_pos w usable) (omega arith) (omega (arith, lt)) (omega arith) refl)
-
--- the chunks from i to before j, held alone
-pub kept : (w i j a e : ℕ) (held old new : List ℕ) → IsTrue (is_width w) → held ≡ old → a ≡ i * w → e ≡ j * w → i ≤ j → j ≤ length (chunks_of w old) →
-    new ≡ slice_range held a e → IsEdit w held new [] (slice_range (chunks_of w old) i j)
-kept w i j a e held old new usable same from to order le is = rw (is, same, from, to) (part w i j old (width_pos w usable) order le)
-
--- ---- values
+good_after : {T E : Type 0} (r : Result T E) (w : ℕ) (ty : TyName) (f : List ℕ → Option UleError) (held new : CowBytes) (cs : List (List ℕ)) →
+    IsTrue (is_width w) → chunks_fault ty w f (bytes_in held) ≡ None → OnErr r (IsUnchanged held new) → OnOk r (AreChunks w f (bytes_in new) cs) →
+    chunks_fault ty w f (bytes_in new) ≡ None
+good_after (Ok x) w ty f held new cs usable good err are = no_fault ty usable are
+good_after (Err e) w ty f held new cs usable good err are = ap (chunks_fault ty w f) err.bytes ∙ good
 
 map_splice : {X Y : Type 0} (f : X → Y) (xs : List X) (i j : ℕ) (ys : List X) → map f (splice xs i j ys) ≡ splice (map f xs) i j (map f ys)
-map_splice f xs i j ys = map-append f (take i xs) (ys ++ drop j xs) ∙ rw (take-map f i xs, drop-map f j xs, map-append f ys (drop j xs)) refl
+map_splice f xs i j ys = simp (map-append, take-map, drop-map)
 
-module _ {X : Type 0} (value : List ℕ → X) (cs new : List (List ℕ)) (vs : List X) (i : ℕ) (read : map value cs ≡ vs) where
-  pub values_inserted : (c : List ℕ) → new ≡ insert cs i c → map value new ≡ insert vs i (value c)
-  values_inserted c is = rw (is, ← read) (map_splice value cs i i (c ∷ []))
+module _ {T E : Type 0} (r : Result T E) (w i a : ℕ) (held new : CowBytes) (old : List ℕ) (ty : TyName) (f : List ℕ → Option UleError)
+    (usable : IsTrue (is_width w)) (same : bytes_in held ≡ old) (good : chunks_fault ty w f (bytes_in held) ≡ None) (at : a ≡ i * w) where
+  edited : (j e : ℕ) {c : List ℕ} {added : List (List ℕ)} → e ≡ j * w → i ≤ j → j ≤ length (chunks_of w old) → AreChunks w f c added →
+      OnOk r (bytes_in new ≡ splice (bytes_in held) a e c) → OnOk r (AreChunks w f (bytes_in new) (splice (chunks_of w old) i j added))
+  edited j e {c} to order le p ok =
+      let all : AreChunks w f old (chunks_of w old) = are_chunks ty old (rw (← same) good) in
+      on_ok_weaker r (λ (is : bytes_in new ≡ splice (bytes_in held) a e c). rw (is, same, at, to) (joined (parted i all (omega arith)).0 (joined p (parted j all le).1)))
+      ok
 
-  pub values_replaced : (c : List ℕ) → new ≡ slice_set cs i c → map value new ≡ slice_set vs i (value c)
-  values_replaced c is = rw (is, ← read) (map-set value cs i c)
+  read_after : {X : Type 0} (value : List ℕ → X) (cs : List (List ℕ)) {vs : List X} → map value cs ≡ vs → OnOk r (AreChunks w f (bytes_in new) cs) →
+      OnOk r (map value (chunks_of w (bytes_in new)) ≡ vs)
+  read_after value cs read are = on_ok_weaker r (λ p. ap (map value) (they_are usable p) ∙ read) are
 
-  pub values_removed : new ≡ remove cs i → map value new ≡ remove vs i
-  values_removed is = rw (is, ← read) (map_splice value cs i (suc i) [])
+  module _ (e : ℕ) (to : e ≡ a + w) (lt : i < length (chunks_of w old)) (ok : OnOk r (bytes_in new ≡ splice (bytes_in held) a e [])) where
+    removed : OnOk r (AreChunks w f (bytes_in new) (remove (chunks_of w old) i))
+    removed = edited (suc i) e (omega (arith, suc-mul i w)) (omega arith) lt none ok
 
-  -- the value of a chunk
-  pub value_there : (c : List ℕ) → i < length cs → c ≡ get_or cs i [] → slice_get vs i ≡ Some (value c)
-  value_there c lt is = rw (← read, is) (slice_get-map value cs i ∙ ap (option_map value) (slice_get-get_or cs i [] lt))
+    pub removed_good : OnErr r (IsUnchanged held new) → chunks_fault ty w f (bytes_in new) ≡ None
+    removed_good err = good_after r w ty f held new _ usable good err removed
 
-map_range : {X Y : Type 0} (f : X → Y) (xs : List X) (i j : ℕ) → map f (slice_range xs i j) ≡ slice_range (map f xs) i j
-map_range f xs i j = sym (ap (take (j - i)) (drop-map f i xs) ∙ take-map f (j - i) (drop i xs))
+    pub removed_chunks : OnOk r (chunks_of w (bytes_in new) ≡ remove (chunks_of w old) i)
+    removed_chunks = on_ok_weaker r (they_are usable) removed
 
--- the values of the chunks from i to before j
-pub values_between : {X : Type 0} (value : List ℕ → X) (w i j : ℕ) (held new : List ℕ) → chunks_of w new ≡ slice_range (chunks_of w held) i j →
-    map value (chunks_of w new) ≡ slice_range (map value (chunks_of w held)) i j
-values_between value w i j held new is = ap (map value) is ∙ map_range value (chunks_of w held) i j
+    pub removed_values : {X : Type 0} (value : List ℕ → X) (vs : List X) → map value (chunks_of w old) ≡ vs →
+        OnOk r (map value (chunks_of w (bytes_in new)) ≡ remove vs i)
+    removed_values value vs read = read_after value _ (rw (← read) (map_splice value (chunks_of w old) i (suc i) [])) removed
 
--- ---- ends of a list
+  module _ (c : List ℕ) (long : length c ≡ w) (fine : f c ≡ None) where
+    one : AreChunks w f c (c ∷ [])
+    one = subst (λ x. AreChunks w f x (c ∷ [])) (append-nil c) (more long fine none)
+
+    module _ (le : i ≤ length (chunks_of w old)) (ok : OnOk r (bytes_in new ≡ splice (bytes_in held) a a c)) where
+      inserted : OnOk r (AreChunks w f (bytes_in new) (insert (chunks_of w old) i c))
+      inserted = edited i a at (omega arith) le one ok
+
+      pub inserted_good : OnErr r (IsUnchanged held new) → chunks_fault ty w f (bytes_in new) ≡ None
+      inserted_good err = good_after r w ty f held new _ usable good err inserted
+
+      pub inserted_chunks : OnOk r (chunks_of w (bytes_in new) ≡ insert (chunks_of w old) i c)
+      inserted_chunks = on_ok_weaker r (they_are usable) inserted
+
+      pub inserted_values : {X : Type 0} (value : List ℕ → X) (vs : List X) (x : X) → value c ≡ x → map value (chunks_of w old) ≡ vs →
+          OnOk r (map value (chunks_of w (bytes_in new)) ≡ insert vs i x)
+      inserted_values value vs x is read = read_after value _ (rw (← read, ← is) (map_splice value (chunks_of w old) i i (c ∷ []))) inserted
+
+    module _ (e : ℕ) (to : e ≡ a + length c) (lt : i < length (chunks_of w old)) (ok : OnOk r (bytes_in new ≡ splice (bytes_in held) a e c)) where
+      replaced : OnOk r (AreChunks w f (bytes_in new) (slice_set (chunks_of w old) i c))
+      replaced = rw (set_split (chunks_of w old) i c lt) (edited (suc i) e (omega (arith, suc-mul i w)) (omega arith) lt one ok)
+
+      pub replaced_good : OnErr r (IsUnchanged held new) → chunks_fault ty w f (bytes_in new) ≡ None
+      replaced_good err = good_after r w ty f held new _ usable good err replaced
+
+      pub replaced_chunks : OnOk r (chunks_of w (bytes_in new) ≡ slice_set (chunks_of w old) i c)
+      replaced_chunks = on_ok_weaker r (they_are usable) replaced
+
+      pub replaced_values : {X : Type 0} (value : List ℕ → X) (vs : List X) (x : X) → value c ≡ x → map value (chunks_of w old) ≡ vs →
+          OnOk r (map value (chunks_of w (bytes_in new)) ≡ slice_set vs i x)
+      replaced_values value vs x is read = read_after value _ (rw (← read, ← is) (map-set value (chunks_of w old) i c)) replaced
 
 -- a list is those before its last element and the last
 pub last_of : {X : Type 0} (xs : List X) (i : ℕ) (x : X) → i + 1 ≡ length xs → slice_get xs i ≡ Some x → xs ≡ slice_range xs 0 i ++ x ∷ []

@@ -1,38 +1,15 @@
-use Rattle.std.proofs.Common.{ℕ, List, ap, refl, sym, ◌∙◌}
-use Rattle.std.proofs.lemmas.Result.{on_ok_weaker}
-use Rattle.zv_ule.specs.Chunks.{chunks_of, chunks_fault, values_of}
-use Rattle.zv_ule.proofs.ChunkFaults.{one_good}
-use Rattle.zv_fixed.proofs.ChunkEdits.{after_either, inserted, values_inserted}
+use Rattle.std.proofs.Common.{rules}
+use Rattle.zv_fixed.proofs.ChunkEdits.{one_chunk, inserted_good, inserted_chunks, inserted_values}
 use Rattle.zv_fixed.proofs.vector.ZeroVec.insert_with.Goals as goal
 
 pub invariant_of-self : goal.invariant_of-self
-invariant_of-self g c =
-    let u = g.T.ULE.ULE in
-    let here = ap (λ v. v.bytes) c.self.view_is in
-    let one = one_good u.TY u.width u.chunk_fault _ (sym (g.met.T.AsULE.kind.errors _) ∙ c.insert.ensures.spells) in (
-      c.self.invariant.0,
-      after_either c.insert.result c.insert.ensures.ok c.insert.ensures.err
-          (λ e. (inserted u.width c.args.index _ _ _ _ c.self.invariant.0 here c.start_of-start.ensures.start _ c.requires.place one.0 e).good u.TY
-          u.chunk_fault (rw one.1 refl) c.self.invariant.1)
-          (λ kept. ap (chunks_fault u.TY u.width u.chunk_fault) kept.bytes ∙ c.self.invariant.1),
-    )
+invariant_of-self g c = let one = one_chunk g.met.T.AsULE.kind _ c.insert.ensures.spells in (c.self.invariant.0, search (rules, inserted_good))
 
 pub returns-clause-ok : goal.returns-clause-ok
-returns-clause-ok g c =
-    let u = g.T.ULE.ULE in
-    let here = ap (λ v. v.bytes) c.self.view_is in
-    let one = one_good u.TY u.width u.chunk_fault _ (sym (g.met.T.AsULE.kind.errors _) ∙ c.insert.ensures.spells) in
-    on_ok_weaker c.insert.result
-    (λ e. (inserted u.width c.args.index _ _ _ _ c.self.invariant.0 here c.start_of-start.ensures.start _ c.requires.place one.0 e).chunks) c.insert.ensures.ok
+returns-clause-ok g c = let one = one_chunk g.met.T.AsULE.kind _ c.insert.ensures.spells in search (rules, inserted_chunks)
 
 pub returns-clause-values : goal.returns-clause-values
-returns-clause-values g c =
-    let u = g.T.ULE.ULE in
-    let value = λ (b : List ℕ). g.T.AsULE.loaded (u.value b) in
-    let read = ap (values_of u.width value) (sym (ap (λ v. v.bytes) c.self.view_is)) ∙ ap (λ v. v.values) c.self.view_is in
-    on_ok_weaker c.insert.result (λ e. values_inserted value (chunks_of u.width c.args.self.now.bytes) _ _ c.args.index read _ e) (returns-clause-ok g c)
+returns-clause-values g c = let one = one_chunk g.met.T.AsULE.kind _ c.insert.ensures.spells in search (rules, inserted_values)
 
 pub returns-clause-long : goal.returns-clause-long
-returns-clause-long g c =
-    let u = g.T.ULE.ULE in
-    (one_good u.TY u.width u.chunk_fault _ (sym (g.met.T.AsULE.kind.errors _) ∙ c.insert.ensures.spells)).0
+returns-clause-long g c = (one_chunk g.met.T.AsULE.kind _ c.insert.ensures.spells).0
