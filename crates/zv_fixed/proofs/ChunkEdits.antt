@@ -125,8 +125,8 @@ module _ {T E : Type 0} (r : Result T E) (w i a : ℕ) (held new : CowBytes) (ol
       OnOk r (bytes_in new ≡ splice (bytes_in held) a e c) → OnOk r (AreChunks w f (bytes_in new) (splice (chunks_of w old) i j added))
   edited j e {c} to order le p ok =
       let all : AreChunks w f old (chunks_of w old) = are_chunks ty old (rw (← same) good) in
-      on_ok_weaker r (λ (is : bytes_in new ≡ splice (bytes_in held) a e c). rw (is, same, at, to) (joined (parted i all (omega arith)).0 (joined p (parted j all le).1)))
-      ok
+      let parts = joined (parted i all (omega arith)).0 (joined p (parted j all le).1) in
+      on_ok_weaker r (λ (is : bytes_in new ≡ splice (bytes_in held) a e c). rw (is, same, at, to) parts) ok
 
   read_after : {X : Type 0} (value : List ℕ → X) (cs : List (List ℕ)) {vs : List X} → map value cs ≡ vs → OnOk r (AreChunks w f (bytes_in new) cs) →
       OnOk r (map value (chunks_of w (bytes_in new)) ≡ vs)

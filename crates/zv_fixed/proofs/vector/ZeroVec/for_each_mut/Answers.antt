@@ -1,6 +1,9 @@
-use Rattle.std.proofs.Common.{arith}
+use Rattle.std.proofs.Common.{arith, refl, length-set}
+use Rattle.std.proofs.lemmas.Grind.{common_steps}
+use Rattle.std.proofs.lemmas.List.{take_more_set}
+use Rattle.std.proofs.lemmas.Option.{slice_get_within}
 use borrow.Author.Rules.{of_calls}
-use Rattle.zv_fixed.proofs.Calls.{none_done, one_done, done_each, all_computed}
+use Rattle.zv_fixed.proofs.Calls.{none_asked, next_call, all_computed}
 use Rattle.zv_fixed.proofs.vector.ZeroVec.for_each_mut.Goals as goal
 
 pub loop-index-init : goal.loop-index-init
@@ -8,25 +11,25 @@ loop-index-init g c = record {
   callable = c.requires;
   owned = c.in_ok-make_owned.ensures.owned;
   spare = omega arith;
-  done = none_done g.F.FnMut (λ v. v) c.args.f _;
+  long = refl;
+  kept = refl;
+  answers = none_asked c.args.f;
 }
 
 pub loop-index-preserved : goal.loop-index-preserved
 loop-index-preserved g c =
     let old = c.loop-index.invariant in
+    let now = c.loop-index.self.values in
+    let within = slice_get_within now c.loop-index.index c.at.result c.at.ensures.read in
     record {
       callable = search of_calls;
       owned = c.set_owned.ensures.owned;
       spare = omega (arith, c.set_owned.ensures.spare, old.spare);
-      done = rw c.set_owned.ensures.values
-          (one_done g.F.FnMut (λ v. v) c.loop-index.index c.at.result old.done c.at.ensures.read c.f-value.result c.f-value.ensures);
+      long = rw (c.set_owned.ensures.values, length-set) old.long;
+      kept = grind (arith, common_steps);
+      answers = rw (c.set_owned.ensures.values, take_more_set now c.loop-index.index c.f-value.result within)
+          (next_call _ now c.loop-index.index old.answers.0 old.answers.1 old.long old.kept c.at.ensures.read c.f-value.ensures);
     }
 
-pub returns-clause-ok : goal.returns-clause-ok
-returns-clause-ok g c =
-    let done = c.loop-index.invariant.done in
-    rw (← c.in_ok-make_owned.ensures.values)
-    (done_each g.F.FnMut c.args.f c.loop-index.f _ c.loop-index.self.values c.loop-index.index (omega (arith, done.long)) done)
-
 pub returns-clause-computed : goal.returns-clause-computed
-returns-clause-computed g c answer computes = all_computed g.F.FnMut answer c.args.f _ _ (returns-clause-ok g c) computes
+returns-clause-computed g c answer computes = all_computed answer c.args.f c.args.self.now.values c.loop-index.self.values (grind (arith, common_steps)) computes
