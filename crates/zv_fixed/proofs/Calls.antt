@@ -1,7 +1,7 @@
 -- Calls of a closure one after another.
-use Rattle.std.proofs.Common.{◌≡◌, ℕ, zero, suc, ◌+◌, ◌<◌, ◌≤◌, List, [], ◌∷◌, ◌++◌, length, take, drop, map, get_or, Some, refl, ap}
+use Rattle.std.proofs.Common.{◌≡◌, ℕ, zero, suc, ◌+◌, ◌<◌, List, [], ◌∷◌, ◌++◌, length, take, drop, map, get_or, Some, refl, ap}
 use Rattle.std.proofs.Common.{sym, ◌∙◌, arith}
-use Rattle.std.proofs.lemmas.List.{same_lists, take_more, take_all, map_push, get_or-drop}
+use Rattle.std.proofs.lemmas.List.{same_lists, take_more, map_push, get_or-drop}
 use Rattle.std.proofs.lemmas.Fn.{FoldsTo-push}
 use Rattle.std.specs.Array.{IsFromFnResult, IsFromFnResultFrom}
 use Rattle.std.specs.Fn.{Mut, Called}
@@ -18,6 +18,7 @@ module _ {F T R : Type 0} {g : Mut F (T × Unit {0}) R} where
   pub computed : {p q : F} (answer : T → R) {x : T} {r : R} → Computes g answer p → Called g p (x, tt) r q → Computes g answer q × (r ≡ answer x)
   computed {p} {q} answer {x} {r} k e = (record { at = λ xs. (k.at ((x, tt) ∷ xs) r q e).1 }, (k.at ((x, tt) ∷ []) r q e).0)
 
+  -- no call yet
   pub none_asked : (f : F) → (d : AnswersEach g f [] []) × (d.last ≡ f)
   none_asked f = (record { calls = []; last = f; asked = refl; taken = refl; given = refl }, refl)
 
@@ -32,7 +33,7 @@ module _ {F T R : Type 0} {g : Mut F (T × Unit {0}) R} where
       let now = computed answer computes asked.1 in
       rw (now.1, all_answers answer asked.0 last cs now.0 asked.2) refl
 
-  -- gives it for each value
+  -- a closure that computes an answer gives it for each value
   pub all_computed : (answer : T → R) (f : F) (xs : List T) (ys : List R) → AnswersEach g f xs ys → Computes g answer f → ys ≡ map answer xs
   all_computed answer f xs ys done computes =
       sym done.given ∙ (all_answers answer f done.last done.calls computes done.asked ∙ ap (map answer) done.taken)
@@ -54,10 +55,6 @@ module _ {F T R : Type 0} {g : Mut F (T × Unit {0}) R} where
         },
         refl,
       )
-
-  -- after the last
-  pub all_asked : (f : F) (xs : List T) (ys : List R) (i : ℕ) → length xs ≤ i → length ys ≤ i → AnswersEach g f (take i xs) (take i ys) → AnswersEach g f xs ys
-  all_asked f xs ys i le le' d = record { calls = d.calls; last = d.last; asked = d.asked; taken = d.taken ∙ take_all i xs le; given = d.given ∙ take_all i ys le' }
 
 -- the answer at a place
 pub answer_of : {T : Type 0} (f : T → Ordering) (xs : List T) (m : ℕ) (x : T) {r : Ordering} → slice_get xs m ≡ Some x → r ≡ f x → answer_at (map f xs) m ≡ r

@@ -32,4 +32,5 @@ loop-index-preserved g c =
     }
 
 pub returns-clause-computed : goal.returns-clause-computed
-returns-clause-computed g c answer computes = all_computed answer c.args.f c.args.self.now.values c.loop-index.self.values (grind (arith, common_steps)) computes
+returns-clause-computed g c answer computes =
+    all_computed answer c.args.f c.args.self.now.values c.loop-index.self.values (grind (arith, common_steps)) computes
