@@ -179,7 +179,7 @@ module _ {T E : Type 0} (r : Result T E) (w i a : ℕ) (held new : CowBytes) (ol
       replaced_values value vs x is read = read_after value _ (rw (← read, ← is) (map-set value (chunks_of w old) i c)) replaced
 
 -- a list is those before its last element and the last
-pub last_of : {X : Type 0} (xs : List X) (i : ℕ) (x : X) → i + 1 ≡ length xs → slice_get xs i ≡ Some x → xs ≡ slice_range xs 0 i ++ x ∷ []
-last_of xs i x is there =
-    sym (take_all (i + 1) xs (omega (arith, is))) ∙ (take_more xs i x (omega (arith, is))
-    ∙ (ap (λ y. take i xs ++ y ∷ []) (get_or_from_slice_get xs i x x there) ∙ ap (λ n. take n xs ++ x ∷ []) (omega arith)))
+pub last_of : {X : Type 0} (xs ys : List X) (i : ℕ) (x : X) → i + 1 ≡ length xs → slice_get xs i ≡ Some x → ys ≡ slice_range xs 0 i → xs ≡ ys ++ x ∷ []
+last_of xs ys i x is there front =
+    let whole : i - 0 ≡ i = omega arith in
+    sym (take_all (i + 1) xs (omega (arith, is))) ∙ (take_more xs i x (omega (arith, is)) ∙ rw (front, whole, get_or_from_slice_get xs i x x there) refl)
