@@ -1,9 +1,11 @@
 pub mod Codable
+pub mod Common
 pub mod Gaps
 pub mod Offsets
 pub mod Pushes
 pub mod Shifts
 pub mod SizeRule
+pub mod Sizes
 pub mod Spliced
 pub mod StartChanges
 pub mod Starts

@@ -1,66 +1,65 @@
 -- What the code asks of a list's size, and what a change that it takes leaves.
-use Rattle.std.proofs.Common.{◌≡◌, ℕ, suc, ◌+◌, ◌-◌, ◌<◌, true, List, [], ◌∷◌, ◌++◌, length, take, drop}
-use Rattle.std.proofs.Common.{get_or, slice_index_or, length-append, set, ap, ◌∙◌, sym, arith, Option, Some, None, ◌*◌, ◌≤◌}
-use Rattle.std.proofs.lemmas.List.Elements.{All-append, All-drop, All-from_recursion, All-take, recursion_from_All}
-use Rattle.std.proofs.lemmas.List.{at_drop_more, take_more}
-use Rattle.std.proofs.lemmas.List.Folds.{concat-append}
-use Rattle.std.proofs.Math.Nat.{mul-one, mul-zero}
-use Rattle.std.specs.List.{concat, remove, splice}
-use Rattle.std.specs.Option.{option_to_list}
+use Rattle.zv_owned.proofs.Common.{[], ◌++◌, ◌+◌, ◌-◌, ◌<◌, ◌^◌, ◌∷◌, ◌≡◌, ◌≤◌, All-from_recursion, AreValid, List, None, Option, Part, Some, add-one, ap}
+use Rattle.zv_owned.proofs.Common.{append-nil, arith, codable, concat, concat-append, drop, drop-drop, elements, enc, get_or, length, length-append}
+use Rattle.zv_owned.proofs.Common.{most_growth, option_to_list, refl, set, size, slice_index_or, splice, suc, sym, take, take-append-drop, takes_splice, true}
+use Rattle.zv_owned.proofs.Common.{zero, ℕ}
+use Rattle.std.proofs.lemmas.Grind.{pieces}
+use Rattle.std.proofs.lemmas.List.{drop_more, set_split, take_more}
+use Rattle.std.proofs.lemmas.List.Elements.{recursion_from_All}
 use Rattle.zv_ule.specs.declared.error.UleError.{UleError}
-use Rattle.zv_var.specs.Format.{Part, codable, elements, enc, list_fault}
-use Rattle.zv_var.specs.Laws.{AreValid}
 use Rattle.zv_var.proofs.Encoding.{elements-enc, fault-enc}
-use Rattle.zv_owned.specs.Size.{size}
-use Rattle.zv_owned.specs.Splices.{most_growth}
-use Rattle.zv_owned.proofs.Codable.{in_parts, set_between, size_between}
+use Rattle.zv_var.specs.Format.{list_fault}
+use Rattle.zv_owned.proofs.Codable.{insert_codable, remove_codable, replace_codable}
 use Rattle.zv_owned.proofs.Offsets.{offset_of}
+use Rattle.zv_owned.proofs.Sizes.{one_encoded, size_append}
 
 pub size_from_Part : (w : ℕ) (b : List ℕ) (xs : List (List ℕ)) → Part w b xs → 0 < length xs → size w xs ≡ length b
 size_from_Part w b [] p h = absurd (omega arith)
 size_from_Part w b (x ∷ xs) p h = ap length (sym p.1)
 
+-- A list is its parts.
+pub in_parts : (xs : List (List ℕ)) (i j : ℕ) → take i xs ++ (take j (drop i xs) ++ drop (i + j) xs) ≡ xs
+in_parts xs i j = rw (← drop-drop j i xs, take-append-drop, take-append-drop) refl
+
+-- the encoding of one element, or of none
+pub begun : (w : ℕ) (o : Option (List ℕ)) → length (enc w (option_to_list o)) ≡ most_growth w o
+begun w None = refl
+begun w (Some x) = omega (arith, one_encoded w x)
+
 -- A change makes the bytes longer by what comes at most.
 pub grown_within : (w : ℕ) (b : List ℕ) (xs : List (List ℕ)) (i j : ℕ) (o : Option (List ℕ)) → Part w b xs →
     length (enc w (splice xs i (i + j) (option_to_list o))) ≤ length b + most_growth w o
-grown_within w b xs i j o p =
-    let size = ap (λ (l : List (List ℕ)). size w l) (in_parts xs i j) in
-    let grown = size_between w (take i xs) (take j (drop i xs)) (option_to_list o) (drop (i + j) xs) in
-    omega (arith, size, grown, within xs p, comes o) where
-      within : (xs : List (List ℕ)) → Part w b xs → size w xs ≤ length b
-      within [] p = omega arith
-      within (x ∷ xs) p = omega (arith, ap length p.1)
-
-      comes : (o : Option (List ℕ)) → w * length (option_to_list o) + length (concat (option_to_list o)) ≡ most_growth w o
-      comes None = omega (arith, mul-zero w)
-      comes (Some e) = omega (arith, mul-one w, length-append e [])
+grown_within w b xs i j o p = omega (arith, size_append, ap (λ (l : List (List ℕ)). size w l) (in_parts xs i j), within xs p, begun w o) where
+  within : (xs : List (List ℕ)) → Part w b xs → size w xs ≤ length b
+  within [] p = omega arith
+  within (x ∷ xs) p = omega (arith, ap length p.1)
 
 -- the length of the element at a place
 pub length_seen : (xs : List (List ℕ)) (i p q : ℕ) → i < length xs → p ≡ offset_of xs (i + 1) → q ≡ offset_of xs i → p - q ≡ length (get_or xs i [])
-length_seen xs i p q h ep eq =
-    let m = ap (λ (l : List (List ℕ)). length (concat l)) (take_more xs i [] h) in
-    let c = ap length (concat-append (take i xs) (get_or xs i [] ∷ [])) in
-    omega (arith, length-append {A = ℕ})
-
--- A splice of one element is a replacement, and of none a removal.
-pub splice_set : (xs : List (List ℕ)) (i : ℕ) (e : List ℕ) → i < length xs → splice xs i (i + 1) (e ∷ []) ≡ set xs i e
-splice_set xs i e h = let k : i + 1 ≡ suc i = omega arith in ap (λ (j : ℕ). take i xs ++ (e ∷ drop j xs)) k ∙ set_between xs i e h
-
-pub splice_remove : (xs : List (List ℕ)) (i : ℕ) → splice xs i (i + 1) [] ≡ remove xs i
-splice_remove xs i = let k : i + 1 ≡ suc i = omega arith in ap (λ (j : ℕ). take i xs ++ drop j xs) k
+length_seen xs i p q h ep eq = rw (ep, eq, take_more xs i [] h, concat-append) (omega (arith, length-append {A = ℕ}))
 
 -- what a replacement takes the place of
 pub replaced_length : (xs : List (List ℕ)) (i n : ℕ) → n ≡ 1 → i < length xs → length (slice_index_or xs i []) ≡ length (concat (take n (drop i xs)))
-replaced_length xs i n k h =
-    sym (ap (λ (n : ℕ). length (concat (take n (drop i xs)))) k ∙ (at_drop_more (λ l. length (concat (take 1 l))) xs i [] h
-    ∙ (length-append (get_or xs i []) [] ∙ omega arith)))
+replaced_length xs i n k h = rw (k, drop_more xs i [] h, append-nil) refl
+
+-- a splice of one element is a replacement
+pub splice_set : (xs : List (List ℕ)) (i : ℕ) (e : List ℕ) → i < length xs → splice xs i (i + 1) (e ∷ []) ≡ set xs i e
+splice_set xs i e h = rw (add-one, set_split xs i e h) refl
+
+-- a list that took a change can be written
+pub taken_codable : (w : ℕ) → 0 < w → 256 ^ w ≤ 2 ^ 32 → (xs : List (List ℕ)) (i j : ℕ) (o : Option (List ℕ)) → codable w xs ≡ true → j ≤ 1 →
+    i + j ≤ length xs → (j ≡ 0 → o ≡ None → ⊥) → takes_splice w xs i j o ≡ true → codable w (splice xs i (i + j) (option_to_list o)) ≡ true
+taken_codable w some narrow xs i (suc (suc j)) o can one inside change taken = absurd (omega arith)
+taken_codable w some narrow xs i zero None can one inside change taken = absurd (change refl refl)
+taken_codable w some narrow xs i zero (Some x) can one inside change taken =
+    let k : i + 0 ≡ i = omega arith in
+    rw k (insert_codable w some narrow xs i x (omega arith) taken)
+taken_codable w some narrow xs i (suc zero) None can one inside change taken = rw add-one (remove_codable w some narrow xs i can)
+taken_codable w some narrow xs i (suc zero) (Some x) can one inside change taken =
+    rw (splice_set xs i x (omega arith)) (replace_codable w some narrow xs i x (omega arith) can taken)
 
 pub splice_valid : (K : List ℕ → Option UleError) (xs new : List (List ℕ)) (i j : ℕ) → AreValid K xs → AreValid K new → AreValid K (splice xs i j new)
-splice_valid K xs new i j v u =
-    let P : List ℕ → Type 0 = λ x. K x ≡ None in
-    let all = All-from_recursion P xs v in
-    recursion_from_All P (splice xs i j new) (All-append P (take i xs) (new ++ drop j xs) (All-take P i xs all)
-    (All-append P new (drop j xs) (All-from_recursion P new u) (All-drop P j xs all)))
+splice_valid K xs new i j v u = recursion_from_All (λ x. K x ≡ None) (splice xs i j new) (search (pieces, All-from_recursion))
 
 -- The bytes that are the encoding of ys are sound, and read as that.
 pub record Made (w : ℕ) (K : List ℕ → Option UleError) (bytes : List ℕ) (ys : List (List ℕ)) : Type 0 where
@@ -69,7 +68,4 @@ pub record Made (w : ℕ) (K : List ℕ → Option UleError) (bytes : List ℕ) 
 
 pub made : (w : ℕ) (K : List ℕ → Option UleError) (bytes : List ℕ) (ys : List (List ℕ)) → 0 < w → bytes ≡ enc w ys → codable w ys ≡ true → AreValid K ys →
     Made w K bytes ys
-made w K bytes ys some e c v = record {
-  sound = ap (λ (b : List ℕ). list_fault w K b) e ∙ fault-enc w K ys some c v;
-  reads = ap (λ (b : List ℕ). elements w b) e ∙ elements-enc w ys some c;
-}
+made w K bytes ys some e c v = record { sound = rw e (fault-enc w K ys some c v); reads = rw e (elements-enc w ys some c) }

@@ -1,11 +1,8 @@
 -- A change of the bytes of a list, write by write.
-use Rattle.std.proofs.Common.{◌≡◌, ℕ, ◌+◌, ◌*◌, List, ◌++◌, length, map, Option, false, Bool, ◌∙◌, arith, append_assoc, length-append}
-use Rattle.std.specs.List.{flat_map}
-use Rattle.std.specs.Option.{option_to_list}
-use Rattle.zv_ule.specs.Bytes.{le}
-use Rattle.zv_var.proofs.Fields.{length-flat_map-le}
-use Rattle.zv_owned.specs.Gaps.{IsRegapped}
-use Rattle.zv_owned.specs.Splices.{Puts, shifted}
+use Rattle.zv_owned.proofs.Common.{◌*◌, ◌++◌, ◌+◌, ◌∙◌, ◌≡◌, Bool, IsRegapped, List, Option, append_assoc, arith, flat_map, le, length, length-append}
+use Rattle.zv_owned.proofs.Common.{length-flat_map-le, map, option_to_list, shifted, ℕ}
+use Rattle.std.proofs.Common.{false}
+use Rattle.zv_owned.specs.Splices.{Puts}
 
 -- The gaps fit in b1. Then the element e, the start, the shifted starts and the count are written.
 pub edited : {w f to a b : ℕ} {is_other : Bool} {b1 b2 b3 b4 b5 : List ℕ} (into out count : ℕ) (start : Option ℕ) (c p ss d e t : List ℕ) →

@@ -1,6 +1,4 @@
-use Rattle.std.proofs.Common.{length, ap, sym, ◌∙◌}
-use Rattle.zv_var.proofs.Read.{Part_from_fault}
-use Rattle.zv_var.specs.Views.{list_of}
+use Rattle.zv_owned.proofs.Common.{◌∙◌, Part_from_fault, ap, length, list_of, sym}
 use Rattle.zv_owned.proofs.SizeRule.{size_from_Part}
 use Rattle.zv_owned.proofs.size.size_of.Goals as goal
 

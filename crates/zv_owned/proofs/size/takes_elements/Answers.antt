@@ -1,10 +1,8 @@
-use Rattle.std.proofs.Common.{sym, arith}
-use Rattle.zv_var.specs.Views.{list_of}
-use Rattle.zv_owned.proofs.Pushes.{list_taken}
+use Rattle.zv_owned.proofs.Common.{arith, list_of, sym}
+use Rattle.zv_owned.proofs.Pushes.{several_taken}
 use Rattle.zv_owned.proofs.size.takes_elements.Goals as goal
 
 pub returns-in_default : goal.returns-in_default
 returns-in_default g c =
-    let w = g.F.VarZeroVecFormat.W in
-    rw (c.size_of.ensures.is, c.most-most.ensures.is)
-    (sym (list_taken w g.F.VarZeroVecFormat.width_positive g.F.VarZeroVecFormat.field_small (list_of c.args.list) (λ e. omega arith) (λ e. omega arith)))
+    let f = g.F.VarZeroVecFormat in
+    rw (c.size_of.ensures.is, c.most-most.ensures.is) (sym (several_taken f.W f.width_positive f.field_small (list_of c.args.list) (omega arith)))

@@ -1,11 +1,7 @@
-use Rattle.std.proofs.Common.{ℕ, ◌≡◌, ◌+◌, ◌*◌, length, ◌++◌, map, length-append, suc, ap, sym, ◌∙◌, arith}
-use Rattle.std.proofs.Math.Nat.{mul-suc}
-use Rattle.std.specs.List.{concat, flat_map}
-use Rattle.std.specs.Option.{option_to_list}
-use Rattle.zv_ule.specs.Bytes.{le}
-use Rattle.zv_var.proofs.Fields.{length-flat_map-le}
-use Rattle.zv_owned.specs.Splices.{count_after, new_elements, shifted}
+use Rattle.zv_owned.proofs.Common.{◌*◌, ◌++◌, ◌+◌, ◌∙◌, ◌≡◌, ap, arith, concat, count_after, flat_map, le, length, length-append, length-flat_map-le, map}
+use Rattle.zv_owned.proofs.Common.{mul-suc, option_to_list, shifted, suc, sym, ℕ}
 use Rattle.zv_owned.proofs.Written.{edited}
+use Rattle.zv_owned.specs.Splices.{new_elements}
 use Rattle.zv_owned.proofs.writes.edit_bytes.Goals as goal
 
 pub returns-clause-ok : goal.returns-clause-ok

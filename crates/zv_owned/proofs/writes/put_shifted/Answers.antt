@@ -1,7 +1,4 @@
-use Rattle.std.proofs.Common.{ℕ, List, ◌≡◌, ◌*◌, ◌∙◌, ◌++◌, ap, sym, length}
-use Rattle.std.specs.List.{flat_map}
-use Rattle.zv_ule.specs.Bytes.{le}
-use Rattle.zv_var.proofs.Fields.{length-flat_map-le}
+use Rattle.zv_owned.proofs.Common.{◌*◌, ◌++◌, ◌∙◌, ◌≡◌, List, ap, flat_map, le, length, length-flat_map-le, sym, ℕ}
 use Rattle.zv_owned.proofs.Shifts.{lent, not_shifted, put_back}
 use Rattle.zv_owned.proofs.writes.put_shifted.Goals as goal
 

@@ -1,4 +1,4 @@
-use Rattle.std.proofs.Common.{rules, refl, ◌∙◌, arith}
+use Rattle.zv_owned.proofs.Common.{◌∙◌, arith, refl, rules}
 use Rattle.zv_owned.proofs.Shifts.{one_shifted}
 use Rattle.zv_owned.proofs.writes.shift_fields.Goals as goal
 

@@ -1,7 +1,4 @@
-use Rattle.std.proofs.Common.{◌≡◌, ℕ, ◌*◌, ◌++◌, List, length, map, take, drop}
-use Rattle.std.specs.List.{flat_map}
-use Rattle.zv_ule.specs.Bytes.{le}
-use Rattle.zv_owned.specs.Splices.{CanShift, shifted}
+use Rattle.zv_owned.proofs.Common.{◌*◌, ◌++◌, ◌≡◌, CanShift, List, drop, flat_map, le, length, map, shifted, take, ℕ}
 use Rattle.zv_owned.proofs.writes.shift_fields.Given as goal
 
 -- the fields before the place are shifted

@@ -1,9 +1,8 @@
-use Rattle.std.proofs.Common.{◌≡◌, true, map, Option, Some, IfSome, subst, ◌∙◌}
-use Rattle.zv_var.specs.Format.{codable, enc}
-use Rattle.zv_var.specs.Laws.{AreValid}
+use Rattle.zv_owned.proofs.Common.{◌∙◌, ◌≡◌, AreValid, Option, Some, codable, enc, map, true}
+use Rattle.std.proofs.Common.{IfSome, subst}
 use Rattle.zv_owned.proofs.SizeRule.{Made, made}
-use Rattle.zv_owned.proofs.owned.VarZeroVecOwned.try_from_elements.Goals as goal
 use Rattle.zv_owned.proofs.owned.VarZeroVecOwned.try_from_elements.Goals.{After-from_bytes}
+use Rattle.zv_owned.proofs.owned.VarZeroVecOwned.try_from_elements.Goals as goal
 
 there : {X : Type 0} (P : X → Type 0) (o : Option X) (x : X) → o ≡ Some x → IfSome o P → P x
 there P o x e h = subst (λ (o : Option _). IfSome o P) e h

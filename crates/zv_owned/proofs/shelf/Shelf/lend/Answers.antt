@@ -1,6 +1,5 @@
-use Rattle.std.proofs.Common.{rules, ◌≡◌, ℕ, ◌+◌, ◌≤◌, List, ◌++◌, length, take, drop, refl, ap, ◌∙◌, arith, length-append, length-drop}
-use Rattle.std.proofs.lemmas.List.{drop-drop, length-take-le, take-append-le}
-use Rattle.std.specs.List.{splice}
+use Rattle.zv_owned.proofs.Common.{◌++◌, ◌+◌, ◌∙◌, ◌≡◌, ◌≤◌, List, ap, arith, drop, drop-drop, length, length-append, length-drop, length-take-le, refl, rules}
+use Rattle.zv_owned.proofs.Common.{splice, take, take-append-le, ℕ}
 use Rattle.zv_owned.specs.Shelves.{Shelved}
 use Rattle.zv_owned.proofs.shelf.Shelf.lend.Goals as goal
 
