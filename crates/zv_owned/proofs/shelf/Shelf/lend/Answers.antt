@@ -1,4 +1,4 @@
-use Rattle.zv_owned.proofs.Common.{◌++◌, ◌+◌, ◌∙◌, ◌≡◌, ◌≤◌, List, ap, arith, drop, drop-drop, length, length-append, length-drop, length-take-le, refl, rules}
+use Rattle.zv_owned.proofs.Common.{◌++◌, ◌+◌, ◌≡◌, ◌≤◌, List, ap, arith, drop, drop-drop, length, length-append, length-drop, length-take-le, refl, rules}
 use Rattle.zv_owned.proofs.Common.{splice, take, take-append-le, ℕ}
 use Rattle.zv_owned.specs.Shelves.{Shelved}
 use Rattle.zv_owned.proofs.shelf.Shelf.lend.Goals as goal
@@ -8,9 +8,9 @@ refilled : (b w : List ℕ) (a n : ℕ) → n ≡ length b → a ≤ length b �
     take n ((take a b ++ (w ++ drop (length w) (drop a b))) ++ drop (length (take a b ++ (w ++ drop (length w) (drop a b)))) b)
     ≡ take (length b) (splice b a (a + length w) w)
 refilled b w a n e h =
-    let all : List ℕ = take a b ++ (w ++ drop (length w) (drop a b)) in
-    let long : length b ≤ length all = omega (arith, length-append {A = ℕ}, length-drop {A = ℕ}, length-take-le a b h) in
-    rw e (take-append-le (length b) all (drop (length all) b) long) ∙ ap (λ (l : List ℕ). take (length b) (take a b ++ (w ++ l))) (drop-drop (length w) a b)
+    let front = length-take-le a b h in
+    rw (e, drop-drop (length w) a b)
+    (take-append-le (length b) (splice b a (a + length w) w) _ (omega (arith, length-append {A = ℕ}, length-drop {A = ℕ})))
 
 pub returns : goal.returns
 returns g c =
