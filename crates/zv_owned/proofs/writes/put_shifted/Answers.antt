@@ -6,11 +6,9 @@ pub returns-then-into-out-clause-bytes : goal.returns-then-into-out-clause-bytes
 returns-then-into-out-clause-bytes g c = λ ss count can p q e at.
     let w : ℕ = g.F.VarZeroVecFormat.W in
     let old : List ℕ = flat_map (le w) ss in
-    let long : length old ≡ c.W.result * c.args.count = length-flat_map-le w ss
-    ∙ (ap (λ (n : ℕ). w * n) count ∙ sym (ap (λ (n : ℕ). n * c.args.count) c.W.ensures)) in
+    let long : length old ≡ c.W.result * c.args.count = rw (c.W.ensures, ← count) (length-flat_map-le w ss) in
     let is = c.shift_fields.ensures ss (c.lend.ensures.value ∙ lent p old q e at long) count can in
     put_back p old q _ e at (c.shift_fields.auto.fields ∙ (c.lend.ensures.len ∙ sym long)) ∙ ap (λ (l : List ℕ). p ++ (l ++ q)) is
 
 pub returns-else-into-out-clause-bytes : goal.returns-else-into-out-clause-bytes
-returns-else-into-out-clause-bytes g c = λ ss count can p q e at.
-    e ∙ ap (λ (l : List ℕ). p ++ (flat_map (le g.F.VarZeroVecFormat.W) l ++ q)) (sym (not_shifted c.args.into c.args.out ss c.if-into-out.false))
+returns-else-into-out-clause-bytes g c = λ ss count can p q e at. rw (not_shifted c.args.into c.args.out ss c.if-into-out.false) e
