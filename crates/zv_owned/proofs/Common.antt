@@ -1,7 +1,7 @@
 -- The names that several proofs cite, passed on from one place. Declares nothing.
 pub use Rattle.std.proofs.Common.{[], ◌*◌, ◌++◌, ◌+◌, ◌-◌, ◌<◌, ◌^◌, ◌∙◌, ◌∷◌, ◌≡◌, ◌≤◌, Bool, List, None, Option, Some, add-one, ap, append_assoc, arith, drop}
 pub use Rattle.std.proofs.Common.{get_or, length, length-append, length-drop, map, max, refl, rules, set, slice_index_or, suc, sym, take, true, zero, ℕ}
-pub use Rattle.std.proofs.Math.Nat.{mul-add, mul-suc, mul-zero}
+pub use Rattle.std.proofs.Math.Nat.{mul-add, mul-zero}
 pub use Rattle.std.proofs.lemmas.Grind.{flat_map-append}
 pub use Rattle.std.proofs.lemmas.List.{append-nil, drop-drop, drop_at, length-map, length-take-le, take-append-drop, take-append-le, take_at}
 pub use Rattle.std.proofs.lemmas.List.Elements.{All-from_recursion}

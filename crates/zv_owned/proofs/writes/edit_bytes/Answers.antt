@@ -1,5 +1,6 @@
 use Rattle.zv_owned.proofs.Common.{◌*◌, ◌++◌, ◌+◌, ◌∙◌, ◌≡◌, arith, concat, count_after, flat_map, le, length, length-append, length-flat_map-le}
-use Rattle.zv_owned.proofs.Common.{mul-suc, refl, suc, ℕ}
+use Rattle.zv_owned.proofs.Common.{refl, suc, ℕ}
+use Rattle.std.proofs.Math.Nat.{mul-suc}
 use Rattle.zv_owned.proofs.Written.{edited}
 use Rattle.zv_owned.specs.Splices.{new_elements}
 use Rattle.zv_owned.proofs.writes.edit_bytes.Goals as goal
