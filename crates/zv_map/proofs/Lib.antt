@@ -1,4 +1,5 @@
 pub mod Ascents
+pub mod Common
 pub mod FixedLists
 pub mod Permuted
 pub mod Places

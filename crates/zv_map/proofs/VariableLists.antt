@@ -1,9 +1,7 @@
 -- Bytes in a format with fields of w bytes.
-use Rattle.std.proofs.Common.{◌≡◌, ℕ, ◌<◌, List, [], ◌∷◌, length, Option, None, arith}
-use Rattle.zv_ule.specs.Bytes.{IsBytes}
-use Rattle.zv_ule.specs.declared.error.UleError.{UleError}
-use Rattle.zv_var.specs.Format.{Part, elements, enc, list_fault}
 use Rattle.zv_var.proofs.Read.{Part_from_fault}
+use Rattle.zv_var.specs.Format.{Part, elements, enc, list_fault}
+use Rattle.zv_map.proofs.Common.{◌≡◌, ℕ, ◌<◌, List, [], ◌∷◌, length, Option, None, arith, IsBytes, UleError}
 
 encoding_from_Part : (w : ℕ) (b : List ℕ) (xs : List (List ℕ)) → Part w b xs → 0 < length xs → b ≡ enc w xs
 encoding_from_Part w b [] p h = absurd (omega (arith, h))

@@ -1,4 +1,6 @@
 // The elements of a view, and the pairs of two views, in order.
+#![tactic(auto, using(crate::proofs::Ranges::pairs))]
+
 ghost use Rattle.std.specs.Prelude.{◌≡◌, ℕ, ◌≤◌, length, zip, slice_range, IfSome, Some};
 ghost use Rattle.std.specs.Iterator.{UpTo, YieldsFirstBy, YieldsLastBy};
 ghost use Rattle.std.specs.Iterator.{item_count};

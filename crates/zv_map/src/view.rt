@@ -1,4 +1,6 @@
 // Views of containers.
+#![tactic(auto, using(crate::proofs::FixedLists::chunk_places))]
+
 ghost use Rattle.std.specs.Prelude.{◌≡◌, ⊤, ℕ, ◌%◌, ◌==◌, ◌<◌, ◌≤◌, ◌↔◌, List, [], length, Option};
 ghost use Rattle.std.specs.Prelude.{None};
 ghost use Rattle.std.specs.Prelude.{IsTrue};

@@ -1,7 +1,4 @@
-use Rattle.std.proofs.Common.{◌≡◌, true, take, drop}
-use Rattle.zv_owned.specs.Size.{takes_pushes}
-use Rattle.zv_map.specs.Permuted.{permuted}
-use Rattle.zv_map.specs.Views.{list_of}
+use Rattle.zv_map.proofs.Common.{◌≡◌, true, take, drop, takes_pushes, permuted, list_of}
 use Rattle.zv_map.proofs.permute.pushed_at.Given as goal
 
 abbrev pub invariant-loop-place : goal.invariant-loop-place

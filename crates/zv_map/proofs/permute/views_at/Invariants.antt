@@ -1,7 +1,6 @@
-use Rattle.std.proofs.Common.{◌≡◌, map, take}
+use Rattle.std.proofs.Common.{map}
 use Rattle.zv_ule.specs.Views.{element_of}
-use Rattle.zv_map.specs.Permuted.{permuted}
-use Rattle.zv_map.specs.Views.{list_of}
+use Rattle.zv_map.proofs.Common.{◌≡◌, take, permuted, list_of}
 use Rattle.zv_map.proofs.permute.views_at.Given as goal
 
 abbrev pub invariant-loop-place : goal.invariant-loop-place

@@ -1,5 +1,4 @@
-use Rattle.std.proofs.Common.{arith}
-use Rattle.zv_ule.specs.Bytes.{IsBytes}
+use Rattle.zv_map.proofs.Common.{arith, IsBytes}
 use Rattle.zv_map.proofs.VariableLists.{encoding_is}
 use Rattle.zv_map.proofs.variable.encoding.Goals as goal
 

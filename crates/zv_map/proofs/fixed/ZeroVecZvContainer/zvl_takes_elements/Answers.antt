@@ -1,6 +1,5 @@
-use Rattle.std.proofs.Common.{[], sym}
-use Rattle.zv_ule.specs.Chunks.{chunks_of}
 use Rattle.zv_owned.proofs.Pushes.{always_taken}
+use Rattle.zv_map.proofs.Common.{[], sym, chunks_of}
 use Rattle.zv_map.proofs.fixed.ZeroVecZvContainer.zvl_takes_elements.Goals as goal
 
 pub returns : goal.returns

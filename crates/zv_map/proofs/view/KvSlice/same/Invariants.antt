@@ -1,5 +1,4 @@
-use Rattle.std.proofs.Common.{◌≡◌, ◌≤◌, take, length}
-use Rattle.zv_map.specs.Views.{list_of}
+use Rattle.zv_map.proofs.Common.{◌≡◌, take, list_of}
 use Rattle.zv_map.proofs.view.KvSlice.same.Given as goal
 
 abbrev pub invariant-loop-index : goal.invariant-loop-index
