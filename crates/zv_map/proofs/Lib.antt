@@ -4,4 +4,3 @@ pub mod FixedLists
 pub mod Permuted
 pub mod Places
 pub mod Ranges
-pub mod VariableLists

@@ -141,6 +141,7 @@ impl<'a, T: AsULE> ZvContainer<T> for ZeroVec<'a, T> {
     }
 
     #[inline]
+    #[tactic(auto, using(zv_owned::proofs::Pushes::always_taken))]
     fn zvl_takes_elements(&self) -> bool {
         true
     }
