@@ -1,5 +1,5 @@
 -- The names that several proofs cite, passed on from one place. Declares nothing.
-pub use Rattle.std.proofs.Common.{◌≡◌, ℕ, zero, suc, ◌+◌, ◌<◌, ◌≤◌, true, List, [], ◌∷◌, length, refl, ◌∙◌, ap, arith, Bool, take, drop, Option, None, IsTrue}
+pub use Rattle.std.proofs.Common.{◌≡◌, ℕ, zero, suc, ◌+◌, ◌<◌, ◌≤◌, true, List, [], ◌∷◌, length, refl, ◌∙◌, ap, arith, Bool, take, drop, None}
 pub use Rattle.std.proofs.Common.{Err, ◌-◌, sym, slice_range, rules}
 pub use Rattle.std.proofs.lemmas.Bool.Decides.{nat_tests}
 pub use Rattle.std.proofs.lemmas.Grind.{common_steps}
@@ -11,11 +11,7 @@ pub use Rattle.std.specs.Ordering.{ordering_reverse}
 pub use Rattle.std.specs.declared.cmp.Ordering.{Ordering}
 pub use Rattle.std.specs.declared.cmp.Ordering.TheVariants.{Less, Equal}
 pub use Rattle.zv_owned.specs.Size.{takes_pushes}
-pub use Rattle.zv_ule.specs.Bytes.{IsBytes}
-pub use Rattle.zv_ule.specs.Chunks.{chunks_of}
 pub use Rattle.zv_ule.specs.Search.{Rises, compared}
-pub use Rattle.zv_ule.specs.declared.error.UleError.{UleError}
-pub use Rattle.zv_map.specs.Forms.{spells_in}
 pub use Rattle.zv_map.specs.Keys.{Bytes, nth}
 pub use Rattle.zv_map.specs.Permuted.{permuted}
 pub use Rattle.zv_map.specs.Views.{list_of}

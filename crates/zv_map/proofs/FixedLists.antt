@@ -1,5 +1,5 @@
 -- Bytes that are chunks of one width, seen as the elements of a kind.
-use Rattle.std.proofs.Common.{◌*◌, ◌/◌, length-drop, length-take-le}
+use Rattle.std.proofs.Common.{◌*◌, ◌/◌, Option, IsTrue, length-drop, length-take-le}
 use Rattle.std.proofs.Math.Nat.{suc-mul, div-mul-le_self}
 use Rattle.std.proofs.lemmas.Option.{gets}
 use Rattle.zv_ule.proofs.At.{place, chunk_of, good_at, length-chunks}
@@ -7,8 +7,9 @@ use Rattle.zv_ule.specs.Chunks.{chunks, first_fault, chunks_fault}
 use Rattle.zv_ule.specs.Fixed.{is_width}
 use Rattle.zv_ule.specs.Kinds.{IsFixedKind, one_fault}
 use Rattle.zv_ule.specs.declared.error.TyName.{TyName}
-use Rattle.zv_map.proofs.Common.{◌≡◌, ℕ, zero, suc, ◌≤◌, Bool, List, length, take, drop, Option, None, IsTrue, refl, arith, common_steps, nat_tests, UleError}
-use Rattle.zv_map.proofs.Common.{spells_in, Fixed}
+use Rattle.zv_ule.specs.declared.error.UleError.{UleError}
+use Rattle.zv_map.proofs.Common.{◌≡◌, ℕ, zero, suc, ◌≤◌, Bool, List, length, take, drop, None, refl, arith, common_steps, nat_tests, Fixed}
+use Rattle.zv_map.specs.Forms.{spells_in}
 
 -- where chunks lie, how many there are, and that they are good
 pub ruleset chunk_places = (common_steps, gets, place, chunk_of, good_at, length-chunks)

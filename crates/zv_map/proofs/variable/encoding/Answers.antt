@@ -1,6 +1,7 @@
+use Rattle.zv_ule.specs.Bytes.{IsBytes}
 use Rattle.zv_var.specs.Format.{Part, elements, enc}
 use Rattle.zv_var.proofs.Read.{Part_from_fault}
-use Rattle.zv_map.proofs.Common.{◌≡◌, ℕ, ◌<◌, List, [], ◌∷◌, length, arith, IsBytes}
+use Rattle.zv_map.proofs.Common.{◌≡◌, ℕ, ◌<◌, List, [], ◌∷◌, length, arith}
 use Rattle.zv_map.proofs.variable.encoding.Goals as goal
 
 -- bytes that spell a list that isn't empty are its encoding
