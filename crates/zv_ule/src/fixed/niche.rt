@@ -182,7 +182,7 @@ impl<U: NicheBytes<N>, const N: usize> ULE for NichedOptionULE<U, N> {
         Ok(())
     }
 
-    #[tactic(auto, using(crate::proofs::ChunkFaults::none_is, crate::proofs::ChunkFaults::whole_fault))]
+    #[tactic(auto, using(crate::proofs::ChunkFaults::whole_lists))]
     fn validate_bytes(bytes: &[u8]) -> Result<(), UleError> {
         if bytes.len() % U::size() != 0 {
             return Err(UleError::length(TyName::NichedOpt, bytes.len()));

@@ -19,7 +19,7 @@ pub fn are_plain<U: ULE>() -> bool
 
 /// Reads as many values as there are places.
 #[inline]
-#[tactic(auto, using(crate::proofs::ChunkFaults::width_pos, crate::specs::laws::ArraySpellings::pieces_are))]
+#[tactic(auto, using(crate::proofs::Lists::array_pieces))]
 pub fn read_all<U: ULE>(bytes: &[u8], out: &mut [U])
     requires usable { IsTrue (is_width U.width) }
     requires whole { length bytes.now ≡ length out.old * U.width }
