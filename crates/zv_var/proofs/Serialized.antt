@@ -115,3 +115,6 @@ module _ {X : Type 0} (p : X → Bool) (f : X → List ℕ) (w : ℕ) (xs : List
       let l = length_spelled f w xs in
       let k = le-mul_of_pos_right (length xs - 1) some in
       grind arith
+
+-- what the function that measures names
+pub ruleset measured = (length_spelled, below_codable)

@@ -13,7 +13,7 @@ ghost use Rattle.zv_var.specs.Serialize.{lengthless, lengthless_len, serialized,
 use std::alloc::Global;
 use zv_ule::{EncodeAsVarULE, NoMemory, VarZeroVecFormat, ZvKind, write_count, write_start};
 
-#[tactic(auto, using(crate::proofs::Serialized::length_spelled, crate::proofs::Serialized::below_codable))]
+#[tactic(auto, using(crate::proofs::Serialized::measured))]
 /// How many bytes the starts and the spellings of values have, as a list without its count. `None`
 /// comes exactly where that reaches `F::MAX` or a value has no spelling.
 pub fn compute_serializable_len_without_length<
