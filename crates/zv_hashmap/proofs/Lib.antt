@@ -1,6 +1,6 @@
 mod Built
+mod Common
 mod Lookups
-mod Pushed
 mod Refused
 mod Repeated
 mod Slots

@@ -1,7 +1,4 @@
-use Rattle.std.proofs.Common.{◌≡◌, ℕ, ◌<◌}
-use Rattle.std.specs.declared.cmp.Ordering.TheVariants.{Equal}
-use Rattle.zv_map.specs.Keys.{nth}
-use Rattle.zv_map.specs.Views.{list_of}
+use Rattle.zv_hashmap.proofs.Common.{◌≡◌, ℕ, ◌<◌, Equal, nth, list_of}
 use Rattle.zv_hashmap.proofs.build.earlier_place.Given as goal
 
 abbrev pub invariant-loop-first : goal.invariant-loop-first

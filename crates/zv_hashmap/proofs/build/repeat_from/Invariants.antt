@@ -1,5 +1,4 @@
-use Rattle.zv_hashmap.specs.Building.{AreApartBelow}
-use Rattle.zv_map.specs.Views.{list_of}
+use Rattle.zv_hashmap.proofs.Common.{AreApartBelow, list_of}
 use Rattle.zv_hashmap.proofs.build.repeat_from.Given as goal
 
 abbrev pub invariant-loop-second : goal.invariant-loop-second

@@ -1,5 +1,6 @@
-use Rattle.zv_hashmap.proofs.Built.{home_answers}
+use Rattle.std.proofs.lemmas.List.Sorted.{IsPermutation-refl}
+use Rattle.zv_hashmap.proofs.Lookups.{answers}
 use Rattle.zv_hashmap.proofs.laws.home_tables.Goals as goal
 
 pub returns : goal.returns
-returns g c = home_answers g.K.ZvOrd.cmp g.met.K.ZvOrd.total g.K.HashBytes.hashed g.met.K.HashBytes.alike
+returns g c t long home = answers g.K.ZvOrd.cmp g.met.K.ZvOrd.total g.K.HashBytes.hashed g.met.K.HashBytes.alike t long home _ (IsPermutation-refl _)

@@ -1,4 +1,4 @@
-use Rattle.std.proofs.Common.{[]}
+use Rattle.zv_hashmap.proofs.Common.{[]}
 use Rattle.zv_hashmap.proofs.key.HashBytes.element_hash.Goals as goal
 
 pub returns : goal.returns

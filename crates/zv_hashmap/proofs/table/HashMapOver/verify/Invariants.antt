@@ -1,6 +1,4 @@
-use Rattle.std.proofs.Common.{◌≡◌, ℕ, ◌<◌, Some}
-use Rattle.zv_map.specs.Keys.{nth}
-use Rattle.zv_hashmap.specs.Table.{slot_of_key}
+use Rattle.zv_hashmap.proofs.Common.{◌≡◌, ℕ, ◌<◌, Some, nth, slot_of_key}
 use Rattle.zv_hashmap.proofs.table.HashMapOver.verify.Given as goal
 
 -- the keys before this slot are home
