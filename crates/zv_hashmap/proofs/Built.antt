@@ -1,7 +1,9 @@
 -- A table whose keys and values went where a placement says.
-use Rattle.zv_hashmap.proofs.Common.{◌≡◌, ℕ, ◌<◌, ◌^◌, Bool, true, List, [], ◌∷◌, length, map, get_or, Result, Ok, Err, IfOk, IfErr, MatchResult, arith, refl}
+use Rattle.zv_hashmap.proofs.Common.{◌≡◌, ℕ, ◌<◌, ◌^◌, Bool, true, List, [], length, map, Result, Err, IfErr, arith, refl}
 use Rattle.zv_hashmap.proofs.Common.{length-map, get_or-map, range_with_len, IsTotalOrder, IsPermutation, IsPermutation-map, Ordering, AreHome, Table, pairs_of}
 use Rattle.zv_hashmap.proofs.Common.{key_hash, Bytes, nth, keys_of, values_of, permuted}
+use Rattle.std.specs.Prelude.{IfOk, MatchResult}
+use Rattle.std.proofs.Common.{◌∷◌, get_or, Ok}
 use Rattle.std.proofs.Math.ListN.{get_or-map as get_or_of_map}
 use Rattle.std.proofs.lemmas.List.{get_or_default, same_lists}
 use Rattle.std.proofs.lemmas.List.FromFn.{get_or-map-range_with_len, length-map-range_with_len}

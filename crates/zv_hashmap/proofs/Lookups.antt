@@ -1,6 +1,8 @@
 -- A table in which each key leads to its own slot answers as its pairs do, in any order.
-use Rattle.zv_hashmap.proofs.Common.{◌≡◌, ℕ, ◌<◌, false, List, [], length, Option, Some, None, IfSome, refl, sym, arith, IsTotalOrder, IsPermutation, IsPermutation-map}
-use Rattle.zv_hashmap.proofs.Common.{Ordering, Equal, AreHome, Table, found, pairs_of, slot_of_key, key_hash, Bytes, nth, keys_of, look_up}
+use Rattle.zv_hashmap.proofs.Common.{◌≡◌, ℕ, ◌<◌, List, [], length, Some, IfSome, refl, sym, arith, IsTotalOrder, IsPermutation, IsPermutation-map}
+use Rattle.zv_hashmap.proofs.Common.{Ordering, Equal, AreHome, Table, pairs_of, slot_of_key, key_hash, Bytes, nth, keys_of}
+use Rattle.zv_map.specs.Maps.{look_up}
+use Rattle.std.proofs.Common.{false, Option, None}
 use Rattle.std.proofs.lemmas.List.Folds.{list_any_at}
 use Rattle.std.proofs.lemmas.List.Sorted.{Contains-permutation, list_any-IsPermutation}
 use Rattle.std.proofs.lemmas.Map.Entries.{place_from_lookup}
@@ -11,7 +13,7 @@ use Rattle.std.specs.BTreeMap.{is_at}
 use Rattle.std.specs.Cmp.{Equal-is}
 use Rattle.std.specs.List.{Contains, list_any, slice_get}
 use Rattle.zv_hashmap.proofs.Slots.{slot_below}
-use Rattle.zv_hashmap.specs.Table.{found_in}
+use Rattle.zv_hashmap.specs.Table.{found_in, found}
 
 -- keys that compare Equal are hashed alike
 abbrev pub AreHashedAlike : (Bytes → Bytes → Ordering) → (List ℕ → List ℕ) → Type 0

@@ -1,5 +1,6 @@
 -- Keys whose hashes differ are not Equal.
-use Rattle.zv_hashmap.proofs.Common.{◌≡◌, ℕ, ◌≤◌, List, length, arith, get_or-map, Ordering, key_hash, Bytes, nth, AreApartBelow, hashes_of}
+use Rattle.zv_hashmap.proofs.Common.{◌≡◌, ℕ, List, length, arith, get_or-map, Ordering, Bytes, nth, AreApartBelow, hashes_of}
+use Rattle.std.proofs.Common.{◌≤◌}
 use Rattle.zv_hash.specs.Repeats.{AreDistinctBelow}
 use Rattle.zv_hashmap.proofs.Lookups.{AreHashedAlike}
 

@@ -1,5 +1,6 @@
 -- The bucket and the slot that a hash leads to are the table's.
-use Rattle.zv_hashmap.proofs.Common.{ℕ, ◌<◌, List, arith, IfSome, slot_of_hash}
+use Rattle.zv_hashmap.proofs.Common.{ℕ, ◌<◌, List, arith, IfSome}
+use Rattle.zv_hashmap.specs.Table.{slot_of_hash}
 use Rattle.std.proofs.lemmas.Bool.Decides.{nat_tests}
 use Rattle.std.proofs.lemmas.Nat.{mod_below}
 use Rattle.zv_hash.specs.Splitting.{bucket_of, slot_of}

@@ -1,4 +1,6 @@
-use Rattle.zv_hashmap.proofs.Common.{◌≡◌, length, arith, length-map, length-range_with_len, length_permutation}
+use Rattle.zv_hashmap.proofs.Common.{◌≡◌, length, arith, length-map}
+use Rattle.std.proofs.lemmas.List.Sorted.{length_permutation}
+use Rattle.std.proofs.lemmas.List.FromFn.{length-range_with_len}
 use Rattle.zv_hashmap.proofs.table.HashMapOver.arrange.Goals as goal
 
 pub invariant_of-result : goal.invariant_of-result

@@ -1,4 +1,5 @@
-use Rattle.zv_hashmap.proofs.Common.{ap, arith, length, refl, sym, ℕ}
+use Rattle.zv_hashmap.proofs.Common.{arith, length, refl, sym, ℕ}
+use Rattle.std.proofs.Common.{ap}
 use Rattle.std.proofs.lemmas.Option.{get_or_from_slice_get}
 use Rattle.zv_hashmap.proofs.Slots.{bucket_below, slot_below}
 use Rattle.zv_hashmap.proofs.table.HashMapOver.slot.Goals as goal
