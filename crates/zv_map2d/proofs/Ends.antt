@@ -13,24 +13,20 @@ use Rattle.zv_map2d.proofs.Flat.{row_well}
 
 module _ {order : Order} (total : IsTotalOrder order) (k : Bytes) (ks : List Bytes) (up : IsStrictlySortedBy order ks) (i : ℕ) (last : suc i ≡ length ks) where
   last_answer : (r : Ordering) → order k (nth ks i) ≡ r → answer_at (compared order ks k) i ≡ ordering_reverse r
-  last_answer r e = compared_at order k ks i (omega arith) ∙ (total.antisymm (nth ks i) k ∙ ap ordering_reverse e)
+  last_answer r e = rw (compared_at order k ks i (omega arith), total.antisymm (nth ks i) k, e) refl
 
   -- a key above the last has its gap at the end
   pub gap_at_end : order k (nth ks i) ≡ Greater → IsGap (compared order ks k) (length ks)
   gap_at_end e =
-      let many : length (compared order ks k) ≡ length ks = length-map ks (λ x. order x k) in
-      let below = last_answer Greater e in
-      record {
+      let many = length-map ks (λ x. order x k) in record {
         within = omega (arith, many);
-        less = λ j h. grind (arith, ap ordering_index below, sorted_rises total k ks up j i (omega (arith, h, last)) (omega (arith, many, last)));
-        greater = λ j h w. absurd (omega (arith, h, w, many));
+        less = λ j h. grind (arith, ap ordering_index (last_answer Greater e), sorted_rises total k ks up j i (omega arith) (omega (arith, many)));
+        greater = λ j h w. absurd (omega (arith, many));
       }
 
   -- and one that is the last stands there
   pub at_end : order k (nth ks i) ≡ Equal → IsAt (compared order ks k) i
-  at_end e =
-      let many : length (compared order ks k) ≡ length ks = length-map ks (λ x. order x k) in
-      placed total k ks up (Ok i) (record { within = omega (arith, many, last); equal = last_answer Equal e })
+  at_end e = placed total k ks up (Ok i) (record { within = omega (arith, length-map ks (λ x. order x k)); equal = last_answer Equal e })
 
 module _ {order0 order1 : Order} (total0 : IsTotalOrder order0) (total1 : IsTotalOrder order1) (m : Rows) (k0 k1 : Bytes) (well : IsWell order0 order1 m)
     (i : ℕ) (last : suc i ≡ length m) where

@@ -1,4 +1,3 @@
-pub mod Bounds
 pub mod Common
 pub mod Ends
 pub mod Flat

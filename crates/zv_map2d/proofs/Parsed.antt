@@ -1,7 +1,7 @@
 -- Four lists that pass the checks of a parse are those of a map.
-use Rattle.zv_map2d.proofs.Common.{◌≡◌, ℕ, ◌+◌, ◌-◌, ◌<◌, ◌≤◌, true, List, [], ◌∷◌, ◌++◌, length, drop, Some, None, refl, sym, ◌∙◌, ap, subst, arith}
+use Rattle.zv_map2d.proofs.Common.{◌≡◌, ℕ, ◌+◌, ◌-◌, ◌<◌, ◌≤◌, true, List, [], ◌∷◌, length, drop, Some, None, refl, sym, ◌∙◌, ap, arith}
 use Rattle.zv_map2d.proofs.Common.{length-drop, drop-map, drop_all, length-map, take-map, same_Some, IsTotalOrder, list_all, AllByRecursion, flat_map}
-use Rattle.zv_map2d.proofs.Common.{IsStrictlySortedBy, Ordering, keys_of, values_of, last_ascending, Lists, keys_ascend, lists_fault, pieces, Bytes, ascends}
+use Rattle.zv_map2d.proofs.Common.{Ordering, keys_of, values_of, last_ascending, Lists, keys_ascend, lists_fault, pieces, Bytes, ascends}
 use Rattle.zv_map2d.proofs.Common.{Rows, IsFlat, IsRow, IsWell, ends_from, firsts, rows_of, slice_range, length-take-le, zip}
 use Rattle.std.proofs.lemmas.Bool.{and_parts}
 use Rattle.std.proofs.lemmas.Bool.Decides.{nat_tests}
@@ -44,10 +44,10 @@ module _ (order : Bytes → Bytes → Ordering) where
         let here : n + length row ≡ e = omega (arith, size, a.0) in
         let keys : slice_range (keys_of xs) n e ≡ keys_of row = simp (drop-map, take-map) in
         record {
-          firsts_are = ap (λ (z : List Bytes). k ∷ z) rest.firsts_are;
-          ends_are = rw here (ap (λ (z : List ℕ). e ∷ z) rest.ends_are);
-          pairs_are = drop_split xs n e (omega (arith, a.0)) ∙ ap (λ (z : List (Bytes × Bytes)). row ++ z) rest.pairs_are;
-          rows = ((omega (arith, size, a.0), subst (IsStrictlySortedBy order) keys (sorted_from_ascends total _ b.0)), rest.rows);
+          firsts_are = rw (← rest.firsts_are) refl;
+          ends_are = rw (here, ← rest.ends_are) refl;
+          pairs_are = rw (← rest.pairs_are) (drop_split xs n e (omega (arith, a.0)));
+          rows = ((omega (arith, size, a.0), rw (← keys) (sorted_from_ascends total _ b.0)), rest.rows);
         }
 
 module _ (o0 o1 : Bytes → Bytes → Ordering) where
@@ -67,14 +67,13 @@ module _ (o0 o1 : Bytes → Bytes → Ordering) where
       let pairs : List (Bytes × Bytes) = zip l.keys1 l.values in
       let k1s : keys_of pairs ≡ l.keys1 = firsts-zip l.keys1 l.values even1 in
       let vs : values_of pairs ≡ l.values = seconds-zip l.keys1 l.values even1 in
-      let long : length l.keys1 ≡ length pairs = sym (ap length k1s) ∙ length-map pairs (λ p. p.0) in
-      let rows = subst (λ z. list_all (ascends o1) (pieces z 0 l.joiner) ≡ true) (sym k1s) up.1 in
-      let p = cut o1 t1 pairs 0 l.keys0 l.joiner even0 (last ∙ ap Some long) rows in (
+      let long : length pairs ≡ length l.keys1 = rw (← length-map pairs (λ p. p.0), k1s) refl in
+      let p = cut o1 t1 pairs 0 l.keys0 l.joiner even0 (rw long last) (rw k1s up.1) in (
         record {
           firsts_are = p.firsts_are;
           ends_are = p.ends_are;
-          seconds_are = sym k1s ∙ (ap keys_of p.pairs_are ∙ sym (pick_is (λ p. p.0) (rows_of l.keys0 l.joiner l.keys1 l.values)));
-          values_are = sym vs ∙ (ap values_of p.pairs_are ∙ sym (pick_is (λ p. p.1) (rows_of l.keys0 l.joiner l.keys1 l.values)));
+          seconds_are = rw (pick_is (λ p. p.0), ← p.pairs_are) (sym k1s);
+          values_are = rw (pick_is (λ p. p.1), ← p.pairs_are) (sym vs);
         },
-        (subst (IsStrictlySortedBy o0) p.firsts_are (sorted_from_ascends t0 l.keys0 up.0), p.rows),
+        (rw (← p.firsts_are) (sorted_from_ascends t0 l.keys0 up.0), p.rows),
       )

@@ -1,6 +1,6 @@
 -- What a search by a predicate found, at its place.
-use Rattle.zv_map2d.proofs.Common.{◌≡◌, ℕ, ◌-◌, ◌<◌, List, [], length, map, take, drop, Option, Some, None, Ok, Err, option_map, sym, ◌∙◌, ap, subst, arith}
-use Rattle.zv_map2d.proofs.Common.{drop-map, length-map, take-map, slice_get, Ordering, Equal, keys_of, values_of, ComesToEqual, Found, IsGap, answer_at, Bytes}
+use Rattle.zv_map2d.proofs.Common.{◌≡◌, ℕ, ◌<◌, List, [], length, map, Option, Some, None, Ok, Err, option_map, sym, ◌∙◌, subst, arith}
+use Rattle.zv_map2d.proofs.Common.{drop-map, length-map, take-map, slice_get, Ordering, Equal, keys_of, values_of, ComesToEqual, Found, answer_at, Bytes}
 use Rattle.zv_map2d.proofs.Common.{nth, FoundBy, IsPicked, slice_range, IfSome, get_or-map}
 use Rattle.std.specs.Fn.{Mut}
 use denote.Ref.{Bor}
@@ -8,26 +8,24 @@ use Rattle.std.proofs.lemmas.Option.{slice_get_cases}
 
 -- the answers of a range
 pub answers_range : (answer : Bytes → Ordering) (xs : List Bytes) (i j : ℕ) → slice_range (map answer xs) i j ≡ map answer (slice_range xs i j)
-answers_range answer xs i j = ap (λ (ys : List Ordering). take (j - i) ys) (drop-map answer i xs) ∙ take-map answer (j - i) (drop i xs)
-
-module _ (answer : Bytes → Ordering) (ks : List Bytes) where
-  answer_is : (i : ℕ) → i < length ks → answer_at (map answer ks) i ≡ answer (nth ks i)
-  answer_is i h = get_or-map answer ks i [] Equal h
-
-  gap_answers : (i : ℕ) → IsGap (map answer ks) i → (j : ℕ) → j < length ks → answer (nth ks j) ≡ Equal → ⊥
-  gap_answers i gap j h e = grind (arith, gap.less j, gap.greater j, answer_is j h, length-map ks answer)
+answers_range answer xs i j = simp (drop-map, take-map)
 
 module _ {X : Type 0} (m : List (Bytes × X)) where
+  answer_is : (answer : Bytes → Ordering) (i : ℕ) → i < length m → answer_at (map answer (keys_of m)) i ≡ answer (nth (keys_of m) i)
+  answer_is answer i h = get_or-map answer (keys_of m) i [] Equal (omega (arith, length-map m (λ e. e.0)))
+
   -- nothing was found
   pub none_by : (answer : Bytes → Ordering) (i : ℕ) → Found (map answer (keys_of m)) (Err i) → FoundBy answer m None
-  none_by answer i found rises j h =
-      gap_answers answer (keys_of m) i (found.1 rises) j (omega (arith, h, length-map m (λ e. e.0)))
+  none_by answer i found rises j h e =
+      let gap = found.1 rises in
+      grind (arith, gap.less j, gap.greater j, answer_is answer j h, length-map (keys_of m) answer, length-map m (λ e. e.0))
 
   -- what was found at a place
   pub one_by : (answer : Bytes → Ordering) (i : ℕ) (x : X) → Found (map answer (keys_of m)) (Ok i) → slice_get (values_of m) i ≡ Some x →
       FoundBy answer m (Some x)
   one_by answer i x found there =
-      (i, sym (answer_is answer (keys_of m) i (omega (arith, found.within, length-map (keys_of m) answer))) ∙ found.equal, there)
+      let within : i < length m = omega (arith, found.within, length-map (keys_of m) answer, length-map m (λ e. e.0)) in
+      (i, sym (answer_is answer i within) ∙ found.equal, there)
 
   -- or nothing
   pub some_by : {A : Type 0} (f : A → X) (answer : Bytes → Ordering) (i : ℕ) (o : Option A) → Found (map answer (keys_of m)) (Ok i) → i < length (values_of m) →
@@ -47,7 +45,6 @@ module _ {X : Type 0} (m : List (Bytes × X)) where
 -- what holds of a value holds of what it is read as, where that is written as the value
 pub same_picked : {A B X : Type 0} (f : A → X) (h : B → X) (P : X → Type 0) (o : Option A) (r : Option B) → option_map h r ≡ option_map f o →
     IfSome o (λ v. P (f v)) → IfSome r (λ v. P (h v))
+same_picked f h P o None same holds = tt
 same_picked f h P (Some a) (Some b) same holds = subst (λ x. IfSome x P) (sym same) holds
-same_picked f h P (Some a) None same holds = tt
 same_picked f h P None (Some b) same holds = cc same
-same_picked f h P None None same holds = tt

@@ -4,11 +4,12 @@ use Rattle.zv_map2d.proofs.Common.{sym, ◌∙◌, ap, arith, set_split, length-
 use Rattle.zv_map2d.proofs.Common.{look_up_gap, rank_at, insert_entry_at, insert_entry_gap, without_key_at, without_key_gap, IsAt, values_of, look_up}
 use Rattle.zv_map2d.proofs.Common.{insert_entry, without_key, set_value_at, compared, IsGap, Rule, fits, fits_by, if_found, Bytes, Order, IsPlace, del_at}
 use Rattle.zv_map2d.proofs.Common.{find_at, fits_at, is_pair, put_at, Rows, IsWell, before, del, find, firsts, put, row, row_at, values, with_row, Map2d, Pair}
-use Rattle.zv_map2d.proofs.Common.{InRow, NewRow}
+use Rattle.zv_map2d.proofs.Common.{InRow, NewRow, AtMostDigits, ◌-◌, ◌≤◌}
 use Rattle.std.proofs.lemmas.Bool.Decides.{nat_tests}
 use Rattle.std.proofs.lemmas.List.Edits.{length-remove}
 use Rattle.std.specs.Option.{unwrap_or}
 use Rattle.std.specs.Prelude.{cond}
+use Rattle.zv_map2d.specs.Bounds.{AtMostDigitsOf}
 use Rattle.zv_map2d.specs.Outcomes.{Inserts, Puts}
 use Rattle.zv_map2d.specs.Refusals.{is_full}
 use Rattle.zv_map2d.specs.declared.error.Map2dError.{Map2dError}
@@ -24,18 +25,15 @@ pair_there order0 order1 m k0 k1 i j at = (at_within order0 k0 m i at.0, at_with
 module _ (m : Rows) where
   pub nothing_there : (p : Place) → ((i j : ℕ) → p ≡ Pair i j → ⊥) → find_at m p ≡ None
   nothing_there (Pair i j) other = absurd (other i j refl)
-  nothing_there (InRow i j) other = refl
-  nothing_there (NewRow i) other = refl
+  nothing_there p other = refl
 
   pub none_gone : (p : Place) → ((i j : ℕ) → p ≡ Pair i j → ⊥) → del_at m p ≡ m
   none_gone (Pair i j) other = absurd (other i j refl)
-  none_gone (InRow i j) other = refl
-  none_gone (NewRow i) other = refl
+  none_gone p other = refl
 
   pub pair_found : (p : Place) → is_some (find_at m p) ≡ is_pair p
   pair_found (Pair i j) = refl
-  pair_found (InRow i j) = refl
-  pair_found (NewRow i) = refl
+  pair_found p = refl
 
 module _ {order0 order1 : Order} (total0 : IsTotalOrder order0) (total1 : IsTotalOrder order1) (m : Rows) (k0 k1 : Bytes) where
   -- the first key is missing
@@ -56,9 +54,7 @@ module _ {order0 order1 : Order} (total0 : IsTotalOrder order0) (total1 : IsTota
 
     with_row_at : (r : List (Bytes × Bytes)) → with_row order0 m k0 r ≡ cond (length r == 0) (remove m i) (set_value_at m i r)
     with_row_at [] = without_key_at total0 k0 m i at
-    with_row_at (p ∷ r) =
-        let some : (suc (length r) == 0) ≡ false = grind (arith, nat_tests) in
-        rw some (insert_entry_at total0 k0 m (p ∷ r) i at)
+    with_row_at (p ∷ r) = let some : (suc (length r) == 0) ≡ false = grind (arith, nat_tests) in rw some (insert_entry_at total0 k0 m (p ∷ r) i at)
 
   -- what is there, and what a change does there, at the place of the keys
   pub find_pair : (i j : ℕ) → IsPlace order0 order1 m k0 k1 (Pair i j) → find order0 order1 m k0 k1 ≡ slice_get (values_of (row_at m i)) j
@@ -66,9 +62,8 @@ module _ {order0 order1 : Order} (total0 : IsTotalOrder order0) (total1 : IsTota
 
   pub find_is : (p : Place) → IsPlace order0 order1 m k0 k1 p → find order0 order1 m k0 k1 ≡ find_at m p
   find_is (Pair i j) h =
-      let w = at_within order0 k0 m i h.0 in
-      let u = at_within order1 k1 (row_at m i) j h.1 in
-      find_pair i j h ∙ (sym (get_pair (λ e. e.1) m i w j u) ∙ slice_get-get_or (values m) (before m i + j) [] (pair_within (λ e. e.1) m i w j u))
+      let w = pair_there order0 order1 m k0 k1 i j h in
+      rw (find_pair i j h, ← get_pair (λ e. e.1) m i w.0 j w.1) (slice_get-get_or (values m) (before m i + j) [] (pair_within (λ e. e.1) m i w.0 j w.1))
   find_is (InRow i j) h = ap (λ r. look_up order1 r k1) (row_is i h.0) ∙ look_up_gap total1 k1 (row_at m i) j h.1
   find_is (NewRow i) h = ap (λ r. look_up order1 r k1) (no_row i h)
 
@@ -86,15 +81,13 @@ module _ {order0 order1 : Order} (total0 : IsTotalOrder order0) (total1 : IsTota
   pub fits_is : (rule : Rule) (v : Bytes) (p : Place) → IsPlace order0 order1 m k0 k1 p → fits rule order0 order1 m k0 k1 v ≡ fits_at rule m k0 k1 v p
   fits_is rule v (Pair i j) h =
       fits_by_is _ rule v (Pair i j) h ∙ rw (rank_at total0 k0 m i h.0, row_is i h.0, rank_at total1 k1 (row_at m i) j h.1) refl
-  fits_is rule v (InRow i j) h = fits_by_is _ rule v (InRow i j) h
-  fits_is rule v (NewRow i) h = fits_by_is _ rule v (NewRow i) h
+  fits_is rule v p h = fits_by_is _ rule v p h
 
   pub del_is : IsWell order0 order1 m → (p : Place) → IsPlace order0 order1 m k0 k1 p → del order0 order1 m k0 k1 ≡ del_at m p
   del_is well (Pair i j) h =
-      let r = remove (row_at m i) j in
-      let one : suc (length r) ≡ length (row_at m i) = omega (arith, length-remove (row_at m i) j (at_within order1 k1 (row_at m i) j h.1)) in
-      let test : (length r == 0) ≡ (length (row_at m i) == 1) = grind (arith, nat_tests) in
-      rw (row_is i h.0, without_key_at total1 k1 (row_at m i) j h.1, with_row_at i h.0 r, test) refl
+      let one = length-remove (row_at m i) j (at_within order1 k1 (row_at m i) j h.1) in
+      let test : (length (remove (row_at m i) j) == 0) ≡ (length (row_at m i) == 1) = grind (arith, nat_tests) in
+      rw (row_is i h.0, without_key_at total1 k1 (row_at m i) j h.1, with_row_at i h.0 _, test) refl
   del_is well (InRow i j) h =
       let w = at_within order0 k0 m i h.0 in
       let some = (row_well order1 m i well.1 w).0 in
@@ -114,3 +107,10 @@ module _ {A : Type 0} (bytes : A → Bytes) {order0 order1 : Order} (total0 : Is
       (is_none (find_at old.rows p) && is_full old.rows) r → Puts bytes rule order0 order1 old new k0 k1 v r
   put_said p r at h =
       rw (fits_is total0 total1 old.rows k0 k1 rule v p at, put_is total0 total1 old.rows k0 k1 v p at, find_is total0 total1 old.rows k0 k1 p at) h
+
+-- how many comparisons they take, where the second search is in the row that the first found
+pub searches_in_row : {order0 order1 : Order} → IsTotalOrder order0 → IsTotalOrder order1 → (m : Rows) (k0 : Bytes) (i : ℕ) →
+    IsAt (compared order0 (firsts m) k0) i → (start middle end : ℕ) → start ≤ middle → middle ≤ end → AtMostDigits (middle - start) (length m) →
+    AtMostDigits (end - middle) (length (row_at m i)) → AtMostDigitsOf (end - start) (length m) (length (row order0 m k0))
+searches_in_row total0 total1 m k0 i at start middle end u v few more =
+    rw (row_is total0 total1 m k0 [] i at) (λ j k h l. omega (arith, few j h, more k l, u, v))

@@ -23,9 +23,10 @@ module _ (m : Rows) where
 pub seen_all : (m : Rows) → map (λ (c : Row). (c.key, c.pairs)) (rows_seen m 0 (length m)) ≡ m
 seen_all m =
     let pair : Row → Bytes × List (Bytes × Bytes) = λ c. (c.key, c.pairs) in
-    let all = rows_seen m 0 (length m) in
-    let many : length (map pair all) ≡ length m = length-map all pair ∙ seen_count m 0 (length m) in
-    ext_get_or ([], []) (map pair all) m many (λ i h.
-    let within : i < length m = omega (arith, h, many) in
-    rw (get_or-map pair all i (row_seen m 0) ([], []) (omega (arith, within, seen_count m 0 (length m))))
-    (ap pair (get_or-map-range_with_len (row_seen m) 0 (length m) i i (row_seen m 0) within (omega arith)) ∙ sym (row_is m i within)))
+    let all = seen_count m 0 (length m) in
+    ext_get_or ([], []) _ m (length-map _ pair ∙ all) (λ i h.
+    let within : i < length m = omega (arith, length-map (rows_seen m 0 (length m)) pair) in
+    rw (
+      get_or-map pair (rows_seen m 0 (length m)) i (row_seen m 0) ([], []) (omega arith),
+      get_or-map-range_with_len (row_seen m) 0 (length m) i i (row_seen m 0) within (omega arith),
+    ) (sym (row_is m i within)))

@@ -1,11 +1,12 @@
 -- What the four lists of a map have.
 use Rattle.zv_map2d.proofs.Common.{◌≡◌, ◌⊎◌, ℕ, suc, ◌+◌, ◌-◌, ◌<◌, ◌≤◌, Bool, List, [], length, get_or, slice_index, take, Result, sym, ◌∙◌, ap, arith}
 use Rattle.zv_map2d.proofs.Common.{zero-add, length-append, length-drop, length-take, Some, length-map, take-take, take_all, slice_get-get_or, IsTotalOrder}
-use Rattle.zv_map2d.proofs.Common.{AllByRecursion, flat_map, insert, remove, slice_get, compared_range, placed, IsAt, IsMap, keys_of, values_of, compared}
+use Rattle.zv_map2d.proofs.Common.{AllByRecursion, insert, remove, slice_get, compared_range, placed, IsAt, IsMap, keys_of, values_of, compared}
 use Rattle.zv_map2d.proofs.Common.{Found, IsGap, last_key, Bytes, Order, nth, Rows, firsts, seconds, IsFlat, IsRow, IsWell, before, row_at, rows_of, AreColumns}
-use Rattle.zv_map2d.proofs.Common.{Map2d, Row, Vector, row_seen, slice_range, zip}
+use Rattle.zv_map2d.proofs.Common.{size, Map2d, Row, Vector, row_seen, slice_range, zip}
 use Rattle.std.specs.Result.{MatchResult}
-use Rattle.zv_map2d.proofs.Flat.{before_suc, before_within, end_at, get_pair, length_ends, length_pick, nth_pair, row_range, row_well, view_of, zip_parts}
+use Rattle.zv_map2d.proofs.Flat.{before_suc, before_within, end_at, get_pair, length_ends, length_pick, nth_pair, row_range, row_well, zip_parts}
+pub use Rattle.zv_map2d.proofs.Flat.{view_of}
 
 -- lists that are the same as those of a map
 pub same_lists : {k0s l0s : List Bytes} {es fs : List ℕ} {k1s l1s vs us : List Bytes} {m : Rows} → l0s ≡ k0s → fs ≡ es → l1s ≡ k1s → us ≡ vs →
@@ -33,9 +34,7 @@ none a b c d = record { firsts_are = a; ends_are = b; seconds_are = c; values_ar
 
 -- later rows start no earlier
 pub before_mono : (m : Rows) (i j : ℕ) → i ≤ j → before m i ≤ before m j
-before_mono m i j h =
-    let t : before (take j m) i ≡ before m i = ap (λ z. length (flat_map (λ r. r.1) z)) (take-take i j m h) in
-    omega (arith, before_within (take j m) i, t)
+before_mono m i j h = rw (← take-take i j m h) (before_within (take j m) i)
 
 -- an insertion makes a list one longer, and a removal none
 pub one_more : (xs ys : List Bytes) (i : ℕ) (x : Bytes) → ys ≡ insert xs i x → length ys ≤ length xs + 1
@@ -48,7 +47,7 @@ no_more xs ys i e = rw e (simp (length-append, length-take, length-drop) (omega 
 pub few_more : {u0 u1 u2 : Bool} {k0s l0s : List Bytes} {es fs : List ℕ} {k1s l1s vs us : List Bytes} (n : ℕ) → AreColumns u0 u1 u2 k0s es k1s vs →
     AreColumns u0 u1 u2 l0s fs l1s us → length l1s ≤ length k1s + n →
     length (seconds (rows_of l0s fs l1s us)) ≤ length (seconds (rows_of k0s es k1s vs)) + n
-few_more n before after h = omega (arith, h, ap length before.flat.seconds_are, ap length after.flat.seconds_are)
+few_more n before after h = rw (← before.flat.seconds_are, ← after.flat.seconds_are) h
 
 module _ {k0s : List Bytes} {es : List ℕ} {k1s vs : List Bytes} {m : Rows} (s : IsFlat k0s es k1s vs m) where
   pub rows_count : length k0s ≡ length m
@@ -60,49 +59,12 @@ module _ {k0s : List Bytes} {es : List ℕ} {k1s vs : List Bytes} {m : Rows} (s 
   pub ends_count : length es ≡ length m
   ends_count = ap length s.ends_are ∙ length_ends 0 m
 
-  -- where the pairs of a row end
-  pub end_is : (i : ℕ) → i < length m → get_or es i 0 ≡ before m (suc i)
-  end_is i h = ap (λ (xs : List ℕ). get_or xs i 0) s.ends_are ∙ (end_at 0 m i h ∙ zero-add (before m (suc i)))
-
-  pub row_within : (i : ℕ) → i < length m → (before m i ≤ before m (suc i)) × (before m (suc i) ≤ length k1s) × (before m (suc i) ≤ length vs)
-  row_within i h =
-      let top = before_within m (suc i) in (
-        omega (arith, before_suc m i h),
-        omega (arith, ap length s.seconds_are, top, length_pick (λ p. p.0) m),
-        omega (arith, ap length s.values_are, top, length_pick (λ p. p.1) m),
-      )
-
-  -- where pair j of row i stands, or would, in the second keys and in the values
-  pub pair_stands : (i j at : ℕ) → i < length m → j < length (row_at m i) → at ≡ before m i + j → (at < length k1s) × (at < length vs)
-  pair_stands i j at h k e = let w = row_within i h in (omega (arith, w.1, before_suc m i h, e, k), omega (arith, w.2, before_suc m i h, e, k))
-
-  pub pair_goes : (i j at : ℕ) → i < length m → j ≤ length (row_at m i) → at ≡ before m i + j → (at ≤ length k1s) × (at ≤ length vs)
-  pair_goes i j at h k e = let w = row_within i h in (omega (arith, w.1, before_suc m i h, e, k), omega (arith, w.2, before_suc m i h, e, k))
+  pub pairs_count : (length k1s ≡ size m) × (length vs ≡ size m)
+  pairs_count = (ap length s.seconds_are ∙ length_pick (λ p. p.0) m, ap length s.values_are ∙ length_pick (λ p. p.1) m)
 
   -- where a row starts, or would
   pub row_goes : (i at : ℕ) → at ≡ before m i → (at ≤ length k1s) × (at ≤ length vs)
-  row_goes i at e =
-      let top = before_within m i in
-      (omega (arith, ap length s.seconds_are, length_pick (λ p. p.0) m, e, top), omega (arith, ap length s.values_are, length_pick (λ p. p.1) m, e, top))
-
-  -- the second keys of a row
-  pub row_range_is : (i start end : ℕ) → i < length m → start ≡ before m i → end ≡ before m (suc i) → slice_range k1s start end ≡ keys_of (row_at m i)
-  row_range_is i start end h a b = rw (a, b, s.seconds_are) (row_range (λ p. p.0) m i h)
-
-  -- how many pairs lie between its ends
-  pub row_size : (i start end : ℕ) → i < length m → start ≡ before m i → end ≡ before m (suc i) → end - start ≡ length (row_at m i)
-  row_size i start end h a b = omega (arith, a, b, before_suc m i h)
-
-  -- the last second key of a row
-  pub last_of_row : (i end : ℕ) → i < length m → 0 < length (row_at m i) → end ≡ before m (suc i) →
-      (end - 1 < length k1s) × (nth k1s (end - 1) ≡ last_key (keys_of (row_at m i)))
-  last_of_row i end h some e =
-      let ks = keys_of (row_at m i) in
-      let many : length ks ≡ length (row_at m i) = length-map (row_at m i) (λ p. p.0) in
-      let at : end - 1 ≡ before m i + (length ks - 1) = omega (arith, before_suc m i h, e, some, many) in (
-        omega (arith, e, (row_within i h).1, before_suc m i h, some),
-        rw (at, s.seconds_are) (nth_pair (λ p. p.0) m i h (length ks - 1) (omega (arith, some, many))),
-      )
+  row_goes i at e = let top = before_within m i in (omega (arith, pairs_count.0), omega (arith, pairs_count.1))
 
   -- what a search of the first keys found
   pub row_placed : {order : Order} → IsTotalOrder order → (key : Bytes) (r : Result ℕ ℕ) → IsMap order m → Found (compared order k0s key) r →
@@ -111,37 +73,71 @@ module _ {k0s : List Bytes} {es : List ℕ} {k1s vs : List Bytes} {m : Rows} (s 
 
   -- which is a search of all first keys
   pub all_answers : (order : Order) (key : Bytes) (end : ℕ) → end ≡ length m → slice_range (compared order k0s key) 0 end ≡ compared order k0s key
-  all_answers order key end h = take_all (end - 0) (compared order k0s key) (omega (arith, length-map k0s (λ x. order x key), rows_count, h))
-
-  -- what a search of a row's second keys found; it has no range outside of them
-  pub pair_placed : {order : Order} → IsTotalOrder order → (key : Bytes) (r : Result ℕ ℕ) (i start end : ℕ) → AllByRecursion (IsRow order) m → i < length m →
-      start ≡ before m i → end ≡ before m (suc i) → Found (slice_range (compared order k1s key) start end) r →
-      MatchResult r (IsAt (compared order (keys_of (row_at m i)) key)) (IsGap (compared order (keys_of (row_at m i)) key))
-  pair_placed {order} total key r i start end all h a b found =
-      placed total key (keys_of (row_at m i)) (row_well order m i all h).1 r
-      (rw (← row_range_is i start end h a b, ← compared_range order key k1s start end) found)
-
-  pub in_range : (i start end : ℕ) → i < length m → start ≡ before m i → end ≡ before m (suc i) → (length k1s < end) ⊎ (end < start) → ⊥
-  in_range i start end h a b outside = grind (arith, row_within i h)
+  all_answers order key end h = take_all (end - 0) (compared order k0s key) (omega (arith, length-map k0s (λ x. order x key), rows_count))
 
   -- a row that is seen, as what its key has
   pub row_seen_is : (i : ℕ) (c : Row) → i < length k0s → c ≡ row_seen m i → slice_get (values_of m) i ≡ Some c.pairs
   row_seen_is i c h e = slice_get-get_or (values_of m) i [] (omega (arith, h, rows_count, length-map m (λ q. q.1))) ∙ ap (λ (r : Row). Some r.pairs) (sym e)
 
-  -- the value of a pair of a row
-  pub value_is : (i j at : ℕ) → i < length m → j < length (row_at m i) → at ≡ before m i + j → slice_get vs at ≡ slice_get (values_of (row_at m i)) j
-  value_is i j at h k a = rw (a, s.values_are) (get_pair (λ p. p.1) m i h j k)
+  module _ {i : ℕ} (h : i < length m) where
+    -- where the pairs of a row end
+    pub end_is : get_or es i 0 ≡ before m (suc i)
+    end_is = rw s.ends_are (end_at 0 m i h ∙ zero-add (before m (suc i)))
 
-  -- the pairs of a row
-  pub row_pairs : (i start end : ℕ) → i < length m → start ≡ before m i → end ≡ before m (suc i) →
-      zip (slice_range k1s start end) (slice_range vs start end) ≡ row_at m i
-  row_pairs i start end h a b =
-      rw (a, b, s.seconds_are, s.values_are) (rw (row_range (λ p. p.0) m i h, row_range (λ p. p.1) m i h) (zip_parts (row_at m i)))
+    pub row_within : (before m i ≤ before m (suc i)) × (before m (suc i) ≤ length k1s) × (before m (suc i) ≤ length vs)
+    row_within = let top = before_within m (suc i) in (omega (arith, before_suc m i h), omega (arith, pairs_count.0), omega (arith, pairs_count.1))
+
+    -- where pair j of row i stands, or would, in the second keys and in the values
+    pub pair_goes : {j at : ℕ} → j ≤ length (row_at m i) → at ≡ before m i + j → (at ≤ length k1s) × (at ≤ length vs)
+    pair_goes k e = (omega (arith, row_within.1, before_suc m i h), omega (arith, row_within.2, before_suc m i h))
+
+    pub pair_stands : {j at : ℕ} → j < length (row_at m i) → at ≡ before m i + j → (at < length k1s) × (at < length vs)
+    pair_stands {j} {at} k e = pair_goes {j = suc j} {at = suc at} k (omega arith)
+
+    -- the value of a pair of a row
+    pub value_is : {j at : ℕ} → j < length (row_at m i) → at ≡ before m i + j → slice_get vs at ≡ slice_get (values_of (row_at m i)) j
+    value_is {j} k a = rw (a, s.values_are) (get_pair (λ p. p.1) m i h j k)
+
+    -- the last second key of a row
+    pub last_of_row : {end : ℕ} → 0 < length (row_at m i) → end ≡ before m (suc i) →
+        (end - 1 < length k1s) × (nth k1s (end - 1) ≡ last_key (keys_of (row_at m i)))
+    last_of_row {end} some e =
+        let ks = keys_of (row_at m i) in
+        let many = length-map (row_at m i) (λ p. p.0) in
+        let at : end - 1 ≡ before m i + (length ks - 1) = omega (arith, before_suc m i h) in (
+          omega (arith, row_within.1, before_suc m i h),
+          rw (at, s.seconds_are) (nth_pair (λ p. p.0) m i h (length ks - 1) (omega arith)),
+        )
+
+    -- between its ends
+    module _ {start end : ℕ} (a : start ≡ before m i) (b : end ≡ before m (suc i)) where
+      -- stand the second keys of a row
+      pub row_range_is : slice_range k1s start end ≡ keys_of (row_at m i)
+      row_range_is = rw (a, b, s.seconds_are) (row_range (λ p. p.0) m i h)
+
+      -- as many as the row has
+      pub row_size : end - start ≡ length (row_at m i)
+      row_size = omega (arith, before_suc m i h)
+
+      -- within all of them
+      pub in_range : (length k1s < end) ⊎ (end < start) → ⊥
+      in_range outside = grind (arith, row_within)
+
+      -- and with the values they are its pairs
+      pub row_pairs : zip (slice_range k1s start end) (slice_range vs start end) ≡ row_at m i
+      row_pairs = rw (a, b, s.seconds_are, s.values_are, row_range (λ p. p.0) m i h, row_range (λ p. p.1) m i h) (zip_parts (row_at m i))
+
+      -- what a search there found
+      pub pair_placed : {order : Order} → IsTotalOrder order → (key : Bytes) (r : Result ℕ ℕ) → AllByRecursion (IsRow order) m →
+          Found (slice_range (compared order k1s key) start end) r →
+          MatchResult r (IsAt (compared order (keys_of (row_at m i)) key)) (IsGap (compared order (keys_of (row_at m i)) key))
+      pair_placed {order} total key r all found =
+          placed total key (keys_of (row_at m i)) (row_well order m i all h).1 r (rw (← row_range_is, ← compared_range order key k1s start end) found)
 
   -- where pairs are still counted, each end can be one more
   pub ends_below : length (seconds m) < 4294967295 → (k : ℕ) → k < length es → slice_index es k < 4294967295
-  ends_below few k h = omega (arith, end_is k (omega (arith, h, ends_count)), before_within m (suc k), length_pick (λ p. p.0) m, few)
+  ends_below few k h = omega (arith, end_is {i = k} (omega (arith, ends_count)), before_within m (suc k), length_pick (λ p. p.0) m)
 
   -- from a row with a pair on, each end can be one less
-  pub ends_some : (i : ℕ) → i < length m → 0 < length (row_at m i) → (k : ℕ) → i ≤ k → k < length es → 0 < slice_index es k
-  ends_some i h some k a l = omega (arith, end_is k (omega (arith, l, ends_count)), before_suc m i h, before_mono m (suc i) (suc k) (omega arith))
+  pub ends_some : {i : ℕ} → i < length m → 0 < length (row_at m i) → (k : ℕ) → i ≤ k → k < length es → 0 < slice_index es k
+  ends_some {i} h some k a l = omega (arith, end_is {i = k} (omega (arith, ends_count)), before_suc m i h, before_mono m (suc i) (suc k) (omega arith))

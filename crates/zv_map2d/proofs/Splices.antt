@@ -1,14 +1,14 @@
 -- What a change of some rows, or of one row's pairs, does to the four lists of a map. Each change is a splice: none or one element stands in place
 -- of none or one.
 use Rattle.zv_map2d.proofs.Common.{length-take, length-drop, ◌≡◌, ℕ, zero, suc, ◌+◌, ◌-◌, ◌<◌, ◌≤◌, List, [], ◌∷◌, ◌++◌, length, get_or, set, take, drop, map}
-use Rattle.zv_map2d.proofs.Common.{refl, sym, ◌∙◌, ap, arith, length-append, zero-add, add-suc, map-append, map-id, take-map, drop-map, take-append-drop}
-use Rattle.zv_map2d.proofs.Common.{take-append-le, drop-append-le, take_at, drop_at, length-set, set_split, length-map, insert, remove, splice, keys_of}
+use Rattle.zv_map2d.proofs.Common.{refl, sym, ◌∙◌, ap, arith, length-append, add-suc, map-append, map-id, take-map, drop-map, take-append-drop}
+use Rattle.zv_map2d.proofs.Common.{take-append-le, drop-append-le, take_at, drop_at, length-set, set_split, length-map, insert, remove, splice, keys_of, values}
 use Rattle.zv_map2d.proofs.Common.{values_of, set_value_at, Bytes, nth, Rows, ends_from, IsFlat, before, row_at, shift_from, append_assoc, seconds}
-use Rattle.std.proofs.Math.Seq.{map-set_same, take-append-add, drop-append-add}
-use Rattle.std.proofs.Math.ListN.{get_or-map}
+use Rattle.std.proofs.Math.Seq.{take-append-add, drop-append-add}
+use Rattle.std.proofs.lemmas.List.{get_or-map, map-set, set-get_or, get_or-drop, places, ext_get_or}
 use Rattle.std.proofs.lemmas.List.Concat.{flat_map-append}
 use Rattle.std.proofs.lemmas.List.Edits.{length-insert, length-remove}
-use Rattle.zv_map2d.proofs.Flat.{pick, length_pick, before_next, before_suc, before_within, pair_within}
+use Rattle.zv_map2d.proofs.Flat.{rows_cut, pick_split, nth_pair, pick, length_pick, before_next, before_suc, before_within, pair_within}
 
 -- ---- splices
 
@@ -23,7 +23,7 @@ splice-append_right : {A : Type 0} (xs ys zs : List A) (i j : ℕ) → splice (x
 splice-append_right xs ys zs i j = rw (take-append-add xs ys i, drop-append-add xs ys j) (simp append_assoc)
 
 keys-set_value_at : {X : Type 0} (m : List (Bytes × X)) (i : ℕ) (x : X) → keys_of (set_value_at m i x) ≡ keys_of m
-keys-set_value_at m i x = map-set_same (λ e. e.0) m i (nth (keys_of m) i, x) ([], x) (get_or-map (λ e. e.0) m i ([], x))
+keys-set_value_at m i x = map-set (λ e. e.0) m i (nth (keys_of m) i, x) ∙ set-get_or (keys_of m) i []
 
 -- ---- the pairs
 
@@ -37,28 +37,31 @@ row_starts m i = start_within (λ q. q.0) m i
 -- other rows
 pick_rows : (g : Bytes × Bytes → Bytes) (m : Rows) (i j : ℕ) (new : Rows) → pick g (splice m i j new) ≡ splice (pick g m) (before m i) (before m j) (pick g new)
 pick_rows g m i j new =
-    let cut : (n : ℕ) → pick g m ≡ pick g (take n m) ++ pick g (drop n m) = λ n. ap (pick g) (sym (take-append-drop n m)) ∙ flat_map-append _ (take n m) _ in
-    let front : take (before m i) (pick g m) ≡ pick g (take i m) = ap (take (before m i)) (cut i) ∙ take_at _ _ _ (length_pick g (take i m)) in
-    let back : drop (before m j) (pick g m) ≡ pick g (drop j m) = ap (drop (before m j)) (cut j) ∙ drop_at _ _ _ (length_pick g (take j m)) in
-    simp flat_map-append (rw (front, back) refl)
+    let front : take (before m i) (pick g m) ≡ pick g (take i m) = rw (rows_cut (λ r. map g r.1) m i) (take_at _ _ _ (length_pick g (take i m))) in
+    let back : drop (before m j) (pick g m) ≡ pick g (drop j m) = rw (rows_cut (λ r. map g r.1) m j) (drop_at _ _ _ (length_pick g (take j m))) in
+    rw (front, back) (simp flat_map-append)
 
 -- other pairs in row i
 pick_splice : (g : Bytes × Bytes → Bytes) (m : Rows) (i j l : ℕ) (ps : List (Bytes × Bytes)) → i < length m → j ≤ length (row_at m i) →
     l ≤ length (row_at m i) → pick g (set_value_at m i (splice (row_at m i) j l ps)) ≡ splice (pick g m) (before m i + j) (before m i + l) (map g ps)
-pick_splice g [] i j l ps h a b = absurd (omega arith)
-pick_splice g (q ∷ m) zero j l ps h a b =
-    ap (λ z. z ++ pick g m) (map-splice g q.1 j l ps) ∙ (sym (splice-append_left (map g q.1) (pick g m) (map g ps) j l (omega (arith, length-map q.1 g))
-    (omega (arith, length-map q.1 g))) ∙ rw (zero-add j, zero-add l) refl)
-pick_splice g (q ∷ m) (suc i) j l ps h a b =
-    let at : (n : ℕ) → length (map g q.1) + (before m i + n) ≡ before (q ∷ m) (suc i) + n = λ n. omega (arith, before_next q m i, length-map q.1 g) in
-    ap (λ z. map g q.1 ++ z) (pick_splice g m i j l ps (omega arith) a b)
-    ∙ (sym (splice-append_right (map g q.1) (pick g m) (map g ps) (before m i + j) (before m i + l)) ∙ rw (at j, at l) refl)
+pick_splice g m i j l ps h a b =
+    let within : (k : ℕ) → k ≤ length (row_at m i) → k ≤ length (map g (row_at m i)) = λ k c. omega (arith, length-map (row_at m i) g) in
+    rw (
+      set_split m i _ h,
+      flat_map-append,
+      pick_split g m i h,
+      ← length_pick g (take i m),
+      splice-append_right,
+      splice-append_left _ _ _ j l (within j a) (within l b),
+      map-splice,
+    ) refl
 
--- another row of which g picks the same
-pick_same : (g : Bytes × Bytes → Bytes) (m : Rows) (i : ℕ) (r : List (Bytes × Bytes)) → map g r ≡ map g (row_at m i) → pick g (set_value_at m i r) ≡ pick g m
-pick_same g [] i r e = refl
-pick_same g (q ∷ m) zero r e = ap (λ z. z ++ pick g m) e
-pick_same g (q ∷ m) (suc i) r e = ap (λ z. map g q.1 ++ z) (pick_same g m i r e)
+-- another pair in place of one
+pick_set : (g : Bytes × Bytes → Bytes) (m : Rows) (i j : ℕ) (p : Bytes × Bytes) → i < length m → j < length (row_at m i) →
+    pick g (set_value_at m i (set (row_at m i) j p)) ≡ set (pick g m) (before m i + j) (g p)
+pick_set g m i j p h k =
+    rw (set_split (row_at m i) j p k, set_split (pick g m) (before m i + j) (g p) (pair_within g m i h j k))
+    (pick_splice g m i j (suc j) (p ∷ []) h (omega arith) k ∙ rw add-suc refl)
 
 -- ---- the ends
 
@@ -79,10 +82,7 @@ ends_new : (n : ℕ) (m : Rows) (i : ℕ) (k : Bytes) (p : Bytes × Bytes) → i
     ends_from n (insert m i (k, p ∷ [])) ≡ insert (shift_from 1 0 i (ends_from n m)) i (n + before m i + 1)
 ends_new n m zero k p h = grind (arith, ends_moved 1 0 n (n + length (p ∷ [])) (omega arith) m)
 ends_new n [] (suc i) k p h = absurd (omega arith)
-ends_new n (q ∷ m) (suc i) k p h =
-    let at : n + length q.1 + before m i ≡ n + before (q ∷ m) (suc i) = omega (arith, before_next q m i) in
-    ap (λ z. (n + length q.1) ∷ z) (ends_new (n + length q.1) m i k p (omega arith)
-    ∙ ap (λ e. insert (shift_from 1 0 i (ends_from (n + length q.1) m)) i (e + 1)) at)
+ends_new n (q ∷ m) (suc i) k p h = grind (arith, before_next q m i, ends_new (n + length q.1) m i k p (omega arith))
 
 -- without a row of one pair
 ends_old : (n : ℕ) (m : Rows) (i : ℕ) → i < length m → length (row_at m i) ≡ 1 → ends_from n (remove m i) ≡ remove (shift_from 0 1 i (ends_from n m)) i
@@ -97,30 +97,30 @@ shift_count a b i xs = simp (length-append, length-map, length-take, length-drop
 -- ---- the four lists
 
 module _ {k0s : List Bytes} {es : List ℕ} {k1s vs : List Bytes} {m : Rows} (flat : IsFlat k0s es k1s vs m) (i : ℕ) where
+  -- other rows, whose ends are known
+  rows_spliced : (j : ℕ) (new : Rows) {fs : List ℕ} → fs ≡ ends_from 0 (splice m i j new) →
+      IsFlat (splice k0s i j (keys_of new)) fs (splice k1s (before m i) (before m j) (seconds new)) (splice vs (before m i) (before m j) (values new))
+      (splice m i j new)
+  rows_spliced j new e = record {
+    firsts_are = rw flat.firsts_are (sym (map-splice (λ q. q.0) m i j new));
+    ends_are = e;
+    seconds_are = rw flat.seconds_are (sym (pick_rows (λ q. q.0) m i j new));
+    values_are = rw flat.values_are (sym (pick_rows (λ q. q.1) m i j new));
+  }
+
   -- a new row of one pair
   pub row_added : (p : ℕ) (k0 k1 v : Bytes) → i ≤ length m → p ≡ before m i →
       IsFlat (insert k0s i k0) (insert (shift_from 1 0 i es) i (p + 1)) (insert k1s p k1) (insert vs p v) (insert m i (k0, (k1, v) ∷ []))
   row_added p k0 k1 v h e =
-      let new : Rows = (k0, (k1, v) ∷ []) ∷ [] in
-      let at : p + 1 ≡ 0 + before m i + 1 = omega (arith, e) in
-      record {
-        firsts_are = rw flat.firsts_are (sym (map-splice (λ q. q.0) m i i new));
-        ends_are = rw (at, flat.ends_are) (sym (ends_new 0 m i k0 (k1, v) h));
-        seconds_are = rw (e, flat.seconds_are) (sym (pick_rows (λ q. q.0) m i i new));
-        values_are = rw (e, flat.values_are) (sym (pick_rows (λ q. q.1) m i i new));
-      }
+      let at : p + 1 ≡ 0 + before m i + 1 = omega arith in
+      rw (at, e) (rows_spliced i ((k0, (k1, v) ∷ []) ∷ []) (rw flat.ends_are (sym (ends_new 0 m i k0 (k1, v) h))))
 
   -- without a row of one pair
   pub row_removed : (p : ℕ) → i < length m → length (row_at m i) ≡ 1 → p ≡ before m i →
       IsFlat (remove k0s i) (remove (shift_from 0 1 i es) i) (remove k1s p) (remove vs p) (remove m i)
   row_removed p h one e =
-      let next : before m (suc i) ≡ suc (before m i) = omega (arith, before_suc m i h, one) in
-      record {
-        firsts_are = rw flat.firsts_are (sym (map-splice (λ q. q.0) m i (suc i) []));
-        ends_are = rw flat.ends_are (sym (ends_old 0 m i h one));
-        seconds_are = rw (e, flat.seconds_are) (sym (pick_rows (λ q. q.0) m i (suc i) [] ∙ rw next refl));
-        values_are = rw (e, flat.values_are) (sym (pick_rows (λ q. q.1) m i (suc i) [] ∙ rw next refl));
-      }
+      let next : suc p ≡ before m (suc i) = omega (arith, before_suc m i h) in
+      rw (next, e) (rows_spliced (suc i) [] (rw flat.ends_are (sym (ends_old 0 m i h one))))
 
   -- in row i
   module _ (j p : ℕ) (h : i < length m) (e : p ≡ before m i + j) where
@@ -150,19 +150,15 @@ module _ {k0s : List Bytes} {es : List ℕ} {k1s vs : List Bytes} {m : Rows} (fl
     -- another value for a pair
     pub value_set : (v : Bytes) → j < length (row_at m i) → IsFlat k0s es k1s (set vs p v) (set_value_at m i (set_value_at (row_at m i) j v))
     value_set v k =
-        let new : List (Bytes × Bytes) = (nth (keys_of (row_at m i)) j, v) ∷ [] in
-        let r : List (Bytes × Bytes) = set_value_at (row_at m i) j v in
-        let split : r ≡ splice (row_at m i) j (suc j) new = set_split (row_at m i) j (nth (keys_of (row_at m i)) j, v) k in
-        let there : p < length vs = omega (arith, e, pair_within (λ q. q.1) m i h j k, ap length flat.values_are) in
-        let many : length (row_at m i) + 0 ≡ length r + 0 = omega (arith, length-set (row_at m i) j (nth (keys_of (row_at m i)) j, v)) in
+        let key = nth (keys_of (row_at m i)) j in
+        let r = set_value_at (row_at m i) j v in
+        let many : length (row_at m i) + 0 ≡ length r + 0 = omega (arith, length-set (row_at m i) j (key, v)) in
         let none : (e : ℕ) → e + 0 - 0 ≡ e = λ e. omega arith in
-        let same : shift_from 0 0 i es ≡ es = simp (none, map-id, take-append-drop) in
         record {
           firsts_are = flat.firsts_are ∙ sym (keys-set_value_at m i r);
-          ends_are = sym same ∙ (ap (shift_from 0 0 i) flat.ends_are ∙ sym (ends_row 0 0 0 m i r h many));
-          seconds_are = flat.seconds_are ∙ sym (pick_same (λ q. q.0) m i r (keys-set_value_at (row_at m i) j v));
-          values_are = set_split vs p v there ∙ (rw (e, flat.values_are, split) (sym (pick_splice (λ q. q.1) m i j (suc j) new h (omega arith) k
-              ∙ rw add-suc refl)));
+          ends_are = flat.ends_are ∙ sym (ends_row 0 0 0 m i r h many ∙ simp (none, map-id, take-append-drop));
+          seconds_are = flat.seconds_are ∙ sym (rw (pick_set (λ q. q.0) m i j (key, v) h k, ← nth_pair (λ q. q.0) m i h j k) (set-get_or _ _ []));
+          values_are = rw (e, flat.values_are) (sym (pick_set (λ q. q.1) m i j (key, v) h k));
         }
 
 -- ---- the numbers of a changed joiner
@@ -170,21 +166,6 @@ module _ {k0s : List Bytes} {es : List ℕ} {k1s vs : List Bytes} {m : Rows} (fl
 -- ys has the numbers of xs, each from place i on a more and b less
 pub shifted : (a b : ℕ) (xs ys : List ℕ) (i : ℕ) → length ys ≡ length xs → ((k : ℕ) → k < i → get_or ys k 0 ≡ get_or xs k 0) →
     ((k : ℕ) → i ≤ k → k < length xs → get_or ys k 0 ≡ get_or xs k 0 + a - b) → ys ≡ shift_from a b i xs
-shifted a b [] [] zero e low high = refl
-shifted a b [] [] (suc i) e low high = refl
-shifted a b [] (y ∷ ys) i e low high = absurd (omega arith)
-shifted a b (x ∷ xs) [] i e low high = absurd (omega arith)
-shifted a b (x ∷ xs) (y ∷ ys) zero e low high =
-    grind (
-      arith,
-      high 0 (omega arith) (omega arith),
-      shifted a b xs ys zero (omega arith) (λ k l. absurd (omega arith))
-          (λ k c d. high (suc k) (omega arith) (omega arith)),
-    )
-shifted a b (x ∷ xs) (y ∷ ys) (suc i) e low high =
-    grind (
-      arith,
-      low 0 (omega arith),
-      shifted a b xs ys i (omega arith) (λ k l. low (suc k) (omega arith))
-          (λ k c d. high (suc k) (omega arith) (omega arith)),
-    )
+shifted a b xs ys i e low high =
+    ext_get_or 0 ys (shift_from a b i xs) (omega (arith, e, shift_count a b i xs)) (λ k h.
+    grind (arith, places, low k, high k, get_or-map (λ e. e + a - b) (drop i xs) (k - length (take i xs)) 0 0, get_or-drop i xs (k - length (take i xs)) 0))

@@ -61,7 +61,7 @@ spelled : (fault : Bytes → Option UleError) (b : List ℕ) {xs : List Bytes} �
     Part 2 b xs × AreValid fault xs
 spelled fault b bytes none e =
     let k : list_fault 2 fault b ≡ None = grind arith in
-    subst (λ xs. Part 2 b xs × AreValid fault xs) e (Part_from_fault 2 fault b (omega arith) bytes k, valid_from_fault 2 fault b (omega arith) bytes k)
+    rw (← e) (Part_from_fault 2 fault b (omega arith) bytes k, valid_from_fault 2 fault b (omega arith) bytes k)
 
 -- parts of bytes that are read without a fault are those of a map
 pub parts_stand : (image : List ℕ) (p : Parts) → image ≡ frame p → AreBytes p → read_fault texts_to_bytes p ≡ None → Stands image (rows_read texts_to_bytes p)
@@ -70,13 +70,12 @@ parts_stand image p h bytes e =
     let k0s = spelled text_fault p.keys0 bytes.keys0 (grind arith) held.0.firsts_are in
     let k1s = spelled text_fault p.keys1 bytes.keys1 (grind arith) held.0.seconds_are in
     let vs = spelled bytes_fault p.values bytes.values (grind arith) held.0.values_are in
-    let es : p.joiner ≡ flat_map (le 4) (ends (rows_read texts_to_bytes p)) =
-    sym (joiner_written p.joiner bytes.joiner (grind arith)) ∙ ap (flat_map (le 4)) held.0.ends_are in
+    let es = sym (joiner_written p.joiner bytes.joiner (grind arith)) in
     record {
       map = record { in_order = held.1; texts0 = k0s.1; texts1 = k1s.1 };
       parts = p;
       formed = h;
-      spelled = record { keys0 = k0s.0; joiner = es; keys1 = k1s.0; values = vs.0 };
+      spelled = record { keys0 = k0s.0; joiner = rw (← held.0.ends_are) es; keys1 = k1s.0; values = vs.0 };
     }
 
 -- what reading the parts of an image gives

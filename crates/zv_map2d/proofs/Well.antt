@@ -28,7 +28,7 @@ pub row_holds : (order : Bytes → Bytes → Ordering) (Q : List (Bytes × Bytes
     Q (row order m k)
 row_holds order Q m k all none =
     let by : (o : Option (List (Bytes × Bytes))) → IfSome o Q → Q (unwrap_or o []) = elim [ None ↦ λ h. none | Some r ↦ λ h. h ] in
-    by (look_up order m k) (look_up_holds order Q m k all)
+    by _ (look_up_holds order Q m k all)
 
 -- a list with a key isn't empty
 insert_entry_some : {X : Type 0} (order : Bytes → Bytes → Ordering) (m : List (Bytes × X)) (k : Bytes) (x : X) → 0 < length (insert_entry order m k x)
@@ -48,15 +48,15 @@ module _ {order0 order1 : Bytes → Bytes → Ordering} (total0 : IsTotalOrder o
   full_rows : AllByRecursion IsFull (values_of m)
   full_rows = values_all IsFull (λ r h. h) m well.1
 
-  insert_row : (r : List (Bytes × Bytes)) → 0 < length r → IsMap order1 r → IsWell order0 order1 (insert_entry order0 m k0 r)
-  insert_row r some up = (IsMap-insert_entry total0 m k0 r well.0, all_values IsFull _ (values_with order0 m k0 IsFull r (some, up) full_rows))
+  insert_row : (r : List (Bytes × Bytes)) → IsFull r → IsWell order0 order1 (insert_entry order0 m k0 r)
+  insert_row r full = (IsMap-insert_entry total0 m k0 r well.0, all_values IsFull _ (values_with order0 m k0 IsFull r full full_rows))
 
   with_row_well : (r : List (Bytes × Bytes)) → IsMap order1 r → IsWell order0 order1 (with_row order0 m k0 r)
   with_row_well [] up = (IsMap-without_key total0 m k0 well.0, all_values IsFull _ (values_without order0 m k0 IsFull full_rows))
-  with_row_well (p ∷ r) up = insert_row (p ∷ r) (omega arith) up
+  with_row_well (p ∷ r) up = insert_row (p ∷ r) (omega arith, up)
 
   pub put_well : (k1 v : Bytes) → IsWell order0 order1 (put order0 order1 m k0 k1 v)
-  put_well k1 v = insert_row _ (insert_entry_some order1 (row order0 m k0) k1 v) (IsMap-insert_entry total1 (row order0 m k0) k1 v row_ordered)
+  put_well k1 v = insert_row _ (insert_entry_some order1 (row order0 m k0) k1 v, IsMap-insert_entry total1 (row order0 m k0) k1 v row_ordered)
 
   pub del_well : (k1 : Bytes) → IsWell order0 order1 (del order0 order1 m k0 k1)
   del_well k1 = with_row_well _ (IsMap-without_key total1 (row order0 m k0) k1 row_ordered)

@@ -1,6 +1,5 @@
 use Rattle.zv_map2d.proofs.Common.{sym, ◌∙◌, InRow, NewRow}
-use Rattle.zv_map2d.proofs.Bounds.{searches_in_row}
-use Rattle.zv_map2d.proofs.Places.{find_is, find_pair}
+use Rattle.zv_map2d.proofs.Places.{find_is, find_pair, searches_in_row}
 use Rattle.zv_map2d.proofs.borrowed.ZeroMap2dBorrowed.get_2d_counted.Goals as goal
 
 pub returns-in_default-clause-value : goal.returns-in_default-clause-value

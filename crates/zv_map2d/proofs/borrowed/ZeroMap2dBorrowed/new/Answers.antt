@@ -1,6 +1,5 @@
 use Rattle.zv_map2d.proofs.Common.{refl, ap, numbers}
-use Rattle.zv_map2d.proofs.Flat.{view_of}
-use Rattle.zv_map2d.proofs.Seen.{none, views}
+use Rattle.zv_map2d.proofs.Seen.{none, view_of, views}
 use Rattle.zv_map2d.proofs.Well.{none_well}
 use Rattle.zv_map2d.proofs.borrowed.ZeroMap2dBorrowed.new.Goals as goal
 

@@ -1,6 +1,5 @@
 use Rattle.zv_map2d.proofs.Common.{rules, length, ap, arith}
-use Rattle.zv_map2d.proofs.Flat.{view_of}
-use Rattle.zv_map2d.proofs.Seen.{columns, ends_below, ends_count, few_more, one_more, row_goes, rows_count, same_lists, seen}
+use Rattle.zv_map2d.proofs.Seen.{columns, ends_below, ends_count, few_more, one_more, row_goes, rows_count, same_lists, seen, view_of}
 use Rattle.zv_map2d.proofs.Splices.{row_added, shift_count}
 use Rattle.zv_map2d.proofs.columns.Columns.add_row.Goals as goal
 
@@ -27,13 +26,12 @@ invariant_of-self g c =
     c.zvl_insert_reserved-2.ensures.list c.zvl_insert_reserved-3.ensures.list
     (row_added (seen c.self.view_is c.self.invariant) _ _ _ _ _ c.requires.row c.row_start-at.ensures))
 
-pub returns-clause-rows : goal.returns-clause-rows
-returns-clause-rows g c =
-    view_of (same_lists c.zvl_insert_reserved.ensures.list (rw (← c.shift.ensures.values) c.insert_owned.ensures.values)
-    c.zvl_insert_reserved-2.ensures.list c.zvl_insert_reserved-3.ensures.list
-    (row_added (seen c.self.view_is c.self.invariant) _ _ _ _ _ c.requires.row c.row_start-at.ensures))
-
-pub returns-clause-spends : goal.returns-clause-spends
-returns-clause-spends g c =
-    let pairs = few_more 1 c.self.invariant (invariant_of-self g c) (one_more _ _ _ _ c.zvl_insert_reserved-2.ensures.list) in
-    rw (← c.self.view_is) (search (rules, pairs, g.met.C0.ZvContainer.ready_owned, g.met.C1.ZvContainer.ready_owned, g.met.D.ZvContainer.ready_owned))
+pub returns : goal.returns
+returns g c =
+    let pairs = few_more 1 c.self.invariant (invariant_of-self g c) (one_more _ _ _ _ c.zvl_insert_reserved-2.ensures.list) in record {
+      rows = view_of (same_lists c.zvl_insert_reserved.ensures.list (rw (← c.shift.ensures.values) c.insert_owned.ensures.values)
+          c.zvl_insert_reserved-2.ensures.list c.zvl_insert_reserved-3.ensures.list
+          (row_added (seen c.self.view_is c.self.invariant) _ _ _ _ _ c.requires.row c.row_start-at.ensures));
+      spends = rw (← c.self.view_is)
+          (search (rules, pairs, g.met.C0.ZvContainer.ready_owned, g.met.C1.ZvContainer.ready_owned, g.met.D.ZvContainer.ready_owned));
+    }

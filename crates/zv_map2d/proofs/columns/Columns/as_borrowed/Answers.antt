@@ -1,5 +1,4 @@
-use Rattle.zv_map2d.proofs.Flat.{view_of}
-use Rattle.zv_map2d.proofs.Seen.{same_lists, seen, views}
+use Rattle.zv_map2d.proofs.Seen.{same_lists, seen, view_of, views}
 use Rattle.zv_map2d.proofs.columns.Columns.as_borrowed.Goals as goal
 
 pub invariant_of-result : goal.invariant_of-result

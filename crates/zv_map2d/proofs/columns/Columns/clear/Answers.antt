@@ -1,6 +1,5 @@
 use Rattle.zv_map2d.proofs.Common.{rules}
-use Rattle.zv_map2d.proofs.Flat.{view_of}
-use Rattle.zv_map2d.proofs.Seen.{columns, none}
+use Rattle.zv_map2d.proofs.Seen.{columns, none, view_of}
 use Rattle.zv_map2d.proofs.columns.Columns.clear.Goals as goal
 
 pub invariant_of-self : goal.invariant_of-self

@@ -4,9 +4,9 @@ use Rattle.zv_map2d.proofs.columns.Columns.pair_place.Goals as goal
 
 pub unreachable-requires : goal.unreachable-requires
 unreachable-requires g c =
-    in_range (seen c.self.view_is c.self.invariant) _ _ _ c.requires.row c.row_start-start.ensures c.row_end-end.ensures (c.in-None.ensures.none.0 refl)
+    in_range (seen c.self.view_is c.self.invariant) c.requires.row c.row_start-start.ensures c.row_end-end.ensures (c.in-None.ensures.none.0 refl)
 
 pub returns : goal.returns
 returns g c =
-    pair_placed (seen c.self.view_is c.self.invariant) g.met.K1.ZvOrd.total _ c.in-Some.place _ _ _ c.requires.well.1 c.requires.row
-    c.row_start-start.ensures c.row_end-end.ensures c.in-Some.ensures.found
+    pair_placed (seen c.self.view_is c.self.invariant) c.requires.row c.row_start-start.ensures c.row_end-end.ensures g.met.K1.ZvOrd.total _ c.in-Some.place
+    c.requires.well.1 c.in-Some.ensures.found

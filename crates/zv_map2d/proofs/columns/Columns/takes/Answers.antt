@@ -5,4 +5,4 @@ use Rattle.zv_map2d.proofs.columns.Columns.takes.Goals as goal
 pub zvl_takes_replace-requires : goal.zvl_takes_replace-requires
 zvl_takes_replace-requires g c =
     let there = pair_there g.K0.ZvOrd.cmp g.K1.ZvOrd.cmp _ _ _ _ _ (rw c.in-Pair.is at c.requires.place) in
-    (pair_stands (seen c.self.view_is c.self.invariant) c.in-Pair.row c.in-Pair.pair _ there.0 there.1 c.pair_start.ensures).1
+    (pair_stands (seen c.self.view_is c.self.invariant) there.0 there.1 c.pair_start.ensures).1

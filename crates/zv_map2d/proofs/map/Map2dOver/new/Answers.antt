@@ -1,5 +1,4 @@
-use Rattle.zv_map2d.proofs.Flat.{view_of}
-use Rattle.zv_map2d.proofs.Seen.{none}
+use Rattle.zv_map2d.proofs.Seen.{none, view_of}
 use Rattle.zv_map2d.proofs.Well.{none_well}
 use Rattle.zv_map2d.proofs.map.Map2dOver.new.Goals as goal
 
