@@ -18,7 +18,8 @@ pub exact_three : {A B C : Type 0} (c0 : A → A → Ordering) (c1 : B → B →
     (c2 : C → C → Ordering) → CmpEqualImpliesEq c0 → CmpEqualImpliesEq c1 → CmpEqualImpliesEq c2 →
     CmpEqualImpliesEq (λ (v w : A × B × C).
     ordering_then (ordering_then (c0 v.0 w.0) (c1 v.1 w.1)) (c2 v.2 w.2))
-exact_three c0 c1 c2 h0 h1 h2 v w e = grind (arith, h0 v.0 w.0, h1 v.1 w.1, h2 v.2 w.2)
+exact_three c0 c1 c2 h0 h1 h2 v w e =
+    grind (arith, h0 v.0 w.0, h1 v.1 w.1, h2 v.2 w.2)
 
 pub exact_four : {A B C D : Type 0} (c0 : A → A → Ordering) (c1 : B → B → Ordering)
     (c2 : C → C → Ordering) (c3 : D → D → Ordering) → CmpEqualImpliesEq c0 →
@@ -27,7 +28,8 @@ pub exact_four : {A B C D : Type 0} (c0 : A → A → Ordering) (c1 : B → B �
     ordering_then
     (ordering_then (ordering_then (c0 v.0 w.0) (c1 v.1 w.1)) (c2 v.2 w.2))
     (c3 v.3 w.3))
-exact_four c0 c1 c2 c3 h0 h1 h2 h3 v w e = grind (arith, h0 v.0 w.0, h1 v.1 w.1, h2 v.2 w.2, h3 v.3 w.3)
+exact_four c0 c1 c2 c3 h0 h1 h2 h3 v w e =
+    grind (arith, h0 v.0 w.0, h1 v.1 w.1, h2 v.2 w.2, h3 v.3 w.3)
 
 pub exact_five : {A B C D E : Type 0} (c0 : A → A → Ordering) (c1 : B → B → Ordering)
     (c2 : C → C → Ordering) (c3 : D → D → Ordering) (c4 : E → E → Ordering) →
@@ -39,7 +41,8 @@ pub exact_five : {A B C D E : Type 0} (c0 : A → A → Ordering) (c1 : B → B 
     (ordering_then (ordering_then (c0 v.0 w.0) (c1 v.1 w.1)) (c2 v.2 w.2))
     (c3 v.3 w.3))
     (c4 v.4 w.4))
-exact_five c0 c1 c2 c3 c4 h0 h1 h2 h3 h4 v w e = grind (arith, h0 v.0 w.0, h1 v.1 w.1, h2 v.2 w.2, h3 v.3 w.3, h4 v.4 w.4)
+exact_five c0 c1 c2 c3 c4 h0 h1 h2 h3 h4 v w e =
+    grind (arith, h0 v.0 w.0, h1 v.1 w.1, h2 v.2 w.2, h3 v.3 w.3, h4 v.4 w.4)
 
 pub exact_six : {A B C D E F : Type 0} (c0 : A → A → Ordering) (c1 : B → B → Ordering)
     (c2 : C → C → Ordering) (c3 : D → D → Ordering) (c4 : E → E → Ordering)
@@ -53,7 +56,8 @@ pub exact_six : {A B C D E F : Type 0} (c0 : A → A → Ordering) (c1 : B → B
     (c3 v.3 w.3))
     (c4 v.4 w.4))
     (c5 v.5 w.5))
-exact_six c0 c1 c2 c3 c4 c5 h0 h1 h2 h3 h4 h5 v w e = grind (arith, h0 v.0 w.0, h1 v.1 w.1, h2 v.2 w.2, h3 v.3 w.3, h4 v.4 w.4, h5 v.5 w.5)
+exact_six c0 c1 c2 c3 c4 c5 h0 h1 h2 h3 h4 h5 v w e =
+    grind (arith, h0 v.0 w.0, h1 v.1 w.1, h2 v.2 w.2, h3 v.3 w.3, h4 v.4 w.4, h5 v.5 w.5)
 
 -- and so are lists
 pub exact_lists : {A : Type 0} (cmp : A → A → Ordering) → CmpEqualImpliesEq cmp →
