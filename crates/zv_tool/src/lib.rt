@@ -9,6 +9,7 @@ pub mod laws;
 mod look;
 mod output;
 mod piece;
+mod places;
 mod program;
 mod replies;
 mod room;
@@ -18,8 +19,8 @@ mod words;
 
 pub use edit::edit2d;
 pub use look::look2d;
+pub use places::ImageMap;
 pub use program::run;
-pub use replies::ImageMap;
 pub use serving::serve;
 pub use status::Status;
 pub use words::Words;

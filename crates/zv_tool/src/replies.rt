@@ -16,13 +16,11 @@ ghost use Rattle.zv_input.specs.Sizes.{sizes_of};
 ghost use Rattle.zv_tool.specs.Sending.{Sends};
 
 use crate::output::Output;
+use crate::places::{ImageMap, discard, find_place, fits, put_fitting, value_at};
 use zv_devices::{Failed, Sink};
 use zv_input::{Command, KeyText, ValueBytes};
-use zv_map2d::{Iter1, Place, ZeroMap2d};
+use zv_map2d::{Iter1, Place};
 use zv_ule::{SliceULE, StrULE, VarRef};
-
-/// The map of an image.
-pub type ImageMap<'a> = ZeroMap2d<'a, StrULE, StrULE, SliceULE<u8>>;
 
 /// Writes a line of a head, which ends with the mark of a field, and a value.
 #[inline(always)]
@@ -92,31 +90,6 @@ fn get<K: Sink>(
     write_found(out, found, b"some x", b"none\n")
 }
 
-// Whether a value for a pair fits at its place.
-fn fits(map: &ImageMap<'_>, place: Place, key0: &str, key1: &str, value: &ValueBytes) -> bool
-    requires { IsPlace by_bytes by_bytes map.now.rows key0.now key1.now place }
-    ensures { result ≡ fits_texts map.now.rows key0.now key1.now value.now }
-{
-    map.in_order();
-    let value = VarRef::of_bytes(value.as_bytes());
-    map.takes_at(place, &key0, &key1, &value)
-}
-
-// Gives a pair a value, which fits, at its place.
-fn put_fitting(map: &mut ImageMap<'_>, place: Place, key0: &str, key1: &str, value: &ValueBytes)
-    requires place { IsPlace by_bytes by_bytes map.old.rows key0.now key1.now place }
-    requires fits { fits_texts map.old.rows key0.now key1.now value.now ≡ true }
-    requires room { HasRoomOf (sizes_of (Command.Put key0.now key1.now value.now)) map.old }
-    ensures rows { map.new.rows
-        ≡ put by_bytes by_bytes map.old.rows key0.now key1.now value.now }
-    ensures spends { SpendsOf (sizes_of (Command.Put key0.now key1.now value.now))
-        map.old map.new }
-{
-    map.in_order();
-    let value = VarRef::of_bytes(value.as_bytes());
-    map.put_at(place, &key0, &key1, &value);
-}
-
 // Replies to a put of a value that fits, and then does it.
 fn put_at<K: Sink>(
     out: &mut Output<'_, K>,
@@ -137,7 +110,7 @@ fn put_at<K: Sink>(
     ensures spends { SpendsOf (sizes_of (Command.Put key0.now key1.now value.now))
         map.old map.new }
 {
-    write_found(out, map.value_at(place, &key0, &key1), b"old x", b"new\n")?;
+    write_found(out, value_at(map, place, key0, key1), b"old x", b"new\n")?;
     put_fitting(map, place, key0, key1, value);
     Ok(())
 }
@@ -160,7 +133,7 @@ fn put<K: Sink>(
         map.old map.new }
 {
     let (key0, key1) = (key0.as_str(), key1.as_str());
-    let place = map.find_place(&key0, &key1);
+    let place = find_place(map, key0, key1);
     if !fits(map, place, key0, key1, value) {
         return out.write(b"toolarge\n");
     }
@@ -183,9 +156,9 @@ fn del<K: Sink>(
     ensures spends { SpendsOf (sizes_of (Command.Del key0.now key1.now)) map.old map.new }
 {
     let (key0, key1) = (key0.as_str(), key1.as_str());
-    let place = map.find_place(&key0, &key1);
-    write_found(out, map.value_at(place, &key0, &key1), b"old x", b"none\n")?;
-    map.discard_at(place, &key0, &key1);
+    let place = find_place(map, key0, key1);
+    write_found(out, value_at(map, place, key0, key1), b"old x", b"none\n")?;
+    discard(map, place, key0, key1);
     Ok(())
 }
 

@@ -4,7 +4,7 @@ ghost use Rattle.zv_map2d.specs.Rows.{seconds};
 ghost use Rattle.zv_tool.specs.Room.{HasRoomOf};
 ghost use Rattle.zv_input.specs.Sizes.{put_sizes};
 
-use crate::replies::ImageMap;
+use crate::places::ImageMap;
 use std::alloc::Global;
 use zv_input::Commands;
 use zv_map2d::Map2dError;

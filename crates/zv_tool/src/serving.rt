@@ -12,7 +12,8 @@ ghost use Rattle.zv_input.specs.Sizes.{put_sizes};
 ghost use Rattle.zv_tool.specs.Sending.{Sends};
 
 use crate::output::Output;
-use crate::replies::{ImageMap, run_command};
+use crate::places::ImageMap;
+use crate::replies::run_command;
 use zv_devices::{Failed, Sink};
 use zv_input::Commands;
 use zv_map2d::Parts;

@@ -1,5 +1,5 @@
 use Rattle.zv_tool.proofs.Common.{◌≡◌, ◌∙◌, rules, fits_alike}
-use Rattle.zv_tool.proofs.replies.fits.Goals as goal
+use Rattle.zv_tool.proofs.places.fits.Goals as goal
 
 pub returns : goal.returns
 returns c =

@@ -1,6 +1,6 @@
 use Rattle.zv_tool.proofs.Common.{◌≡◌, ◌∙◌, Bool, refl, rules, true, fits_texts, fits_alike}
 use Rattle.zv_map.specs.Reserved.{IsTaken}
-use Rattle.zv_tool.proofs.replies.put_fitting.Goals as goal
+use Rattle.zv_tool.proofs.places.put_fitting.Goals as goal
 
 IsTaken-from : {takes : Bool} → takes ≡ true → IsTaken takes
 IsTaken-from is = record { taken = is }
