@@ -56,9 +56,12 @@ module _ {F T R : Type 0} {g : Mut F (T × Unit {0}) R} where
         refl,
       )
 
--- the answer at a place
-pub answer_of : {T : Type 0} (f : T → Ordering) (xs : List T) (m : ℕ) (x : T) {r : Ordering} → slice_get xs m ≡ Some x → r ≡ f x → answer_at (map f xs) m ≡ r
-answer_of f xs m x there is = get_or_from_slice_get (map f xs) m (f x) Equal (slice_get-map f xs m ∙ ap (option_map f) there) ∙ sym is
+-- a predicate that computes an answer gives that of the value at a place, and goes on to compute it
+pub answered_at : {F T : Type 0} {g : Mut F (T × Unit {0}) Ordering} {p q : F} (f : T → Ordering) (xs : List T) (m : ℕ) {x : T} {r : Ordering} →
+    Computes g f p → slice_get xs m ≡ Some x → Called g p (x, tt) r q → Computes g f q × (answer_at (map f xs) m ≡ r)
+answered_at f xs m {x} computes there called =
+    let now = computed f computes called in
+    (now.0, get_or_from_slice_get (map f xs) m (f x) Equal (slice_get-map f xs m ∙ ap (option_map f) there) ∙ sym now.1)
 
 -- ---- an array of the results of calls at 0, 1 and so on
 
