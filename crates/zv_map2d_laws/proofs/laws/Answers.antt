@@ -3,4 +3,4 @@ use Rattle.zv_map2d_laws.proofs.OnlyImage.{one_image}
 use Rattle.zv_map2d_laws.proofs.laws.Goals as goal
 
 pub returns : goal.returns
-returns c = record { read = read_exactly; one = one_map; canon = canon_stands; image = one_image; frame = frame_exactly }
+returns c = search (read_exactly, one_map, canon_stands, one_image, frame_exactly)

@@ -1,4 +1,3 @@
-use Rattle.std.proofs.Common.{rules}
 use Rattle.std.specs.Char.{encode_utf8}
 use Rattle.std.specs.Str.{chars, is_utf8}
 use Rattle.zv_map2d_laws.proofs.worked_images.Goals as goal
@@ -6,4 +5,4 @@ use Rattle.zv_map2d_laws.proofs.worked_images.Goals as goal
 -- each by computing
 pub returns : goal.returns
 unfolding chars is_utf8 encode_utf8
-returns c = search rules
+returns c = search
