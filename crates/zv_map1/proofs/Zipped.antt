@@ -1,9 +1,9 @@
 -- Two lists as the pairs of a map: what is at a place, and what a change at a place leaves.
 use Rattle.zv_map1.proofs.Common.{List, Bytes, ℕ, length, ◌≡◌, zip, insert, zero, refl, [], suc, ◌∷◌, arith, ap, set, nth, remove, Order, IsStrictlySortedBy}
-use Rattle.zv_map1.proofs.Common.{subst, sym, Bool, IsTrue, AreColumns, KindGhosts, OrdGhosts, ZeroMapBorrowed, keys_of, pairs_of, list_of, firsts-zip}
-use Rattle.zv_map1.proofs.Common.{values_of, seconds-zip, length-zip, Vector, Map1, IsMap, Pairs, ◌∙◌, IsTotalOrder, IsGap, compared, insert_entry}
-use Rattle.zv_map1.proofs.Common.{insert_entry_gap, ◌≤◌, gap_within, length-insert, IsMap-insert_entry, ◌<◌, length-remove, IsAt, own_place, without_key_at}
-use Rattle.zv_map1.proofs.Common.{IsMap-without_key, set_value_at, length-set}
+use Rattle.zv_map1.proofs.Common.{subst, sym, Bool, AreColumns, KindGhosts, OrdGhosts, ZeroMapBorrowed, keys_of, pairs_of, list_of, firsts-zip, values_of}
+use Rattle.zv_map1.proofs.Common.{seconds-zip, length-zip, Vector, Map1, IsMap, Pairs, ◌∙◌, IsTotalOrder, IsGap, compared, insert_entry, insert_entry_gap, ◌≤◌}
+use Rattle.zv_map1.proofs.Common.{gap_within, length-insert, IsMap-insert_entry, ◌<◌, length-remove, IsAt, own_place, without_key_at, IsMap-without_key}
+use Rattle.zv_map1.proofs.Common.{length-set, length-map}
 
 -- ---- changes of both lists
 
@@ -32,18 +32,18 @@ zip_remove (k ∷ ks) [] (suc i) = refl
 zip_remove (k ∷ ks) (w ∷ vs) zero = refl
 zip_remove (k ∷ ks) (w ∷ vs) (suc i) = ap (λ r. (k, w) ∷ r) (zip_remove ks vs i)
 
--- ---- how a map is made
+-- the keys and the values of the pairs of two lists, and how many there are
+pub ruleset parts = (firsts-zip, seconds-zip, length-zip)
 
+-- the same after another value is set, or an element of each is removed
+pub ruleset edited = (parts, zip_set, length-set, zip_remove, length-map)
+
+-- no keys ascend
 pub none_ascends : (order : Order) (ks : List Bytes) → ks ≡ [] → IsStrictlySortedBy order ks
 unfolding IsStrictlySortedBy
 none_ascends order ks e = subst (IsStrictlySortedBy order) (sym e) tt
 
--- no lists are the columns of the map of no pairs
-pub no_columns : {usable_keys usable_values : Bool} {order : Order} {ks vs : List Bytes} → IsTrue usable_keys → IsTrue usable_values → ks ≡ [] → vs ≡ [] →
-    AreColumns usable_keys usable_values order ks vs
-no_columns a b p q = record { keys = a; values = b; count = omega (arith, ap length p, ap length q); ascending = none_ascends _ _ p }
-
--- ---- the lists of a borrowed map: its keys, its values, and how many they are
+-- ---- the lists of a borrowed map: its keys and its values
 
 module _ {K V : Type 0} {key : KindGhosts K} {order : OrdGhosts K} {value : KindGhosts V} (b : ZeroMapBorrowed K V order key value) where
   pub keys_in : keys_of (pairs_of b) ≡ list_of b.keys
@@ -51,9 +51,6 @@ module _ {K V : Type 0} {key : KindGhosts K} {order : OrdGhosts K} {value : Kind
 
   pub values_in : values_of (pairs_of b) ≡ list_of b.values
   values_in = seconds-zip (list_of b.keys) (list_of b.values) (sym b.count)
-
-  pub count_in : length (pairs_of b) ≡ length (list_of b.keys)
-  count_in = omega (arith, length-zip (list_of b.keys) (list_of b.values), b.count)
 
 -- ---- the lists of a map that is seen: its keys, its values, and how many they are
 
@@ -68,17 +65,9 @@ module _ {usable_keys usable_values : Bool} {order : Order} {ks vs : List Bytes}
   pub count_is : length m.pairs ≡ length ks
   count_is = rw (← view) (omega (arith, length-zip ks vs, c.count))
 
-  pub values_count_is : length m.pairs ≡ length vs
-  values_count_is = omega (arith, count_is, c.count)
-
   -- the pairs are a map
   pub ascend : IsMap order m.pairs
   ascend = rw keys_are c.ascending
-
-  -- the keys as those of another kind, by whose order they ascend too
-  pub columns_as : {usable' : Bool} {order' : Order} {ks' : List Bytes} → IsTrue usable' → ks' ≡ ks → IsMap order' m.pairs →
-      AreColumns usable' usable_values order' ks' vs
-  columns_as usable e up = record { keys = usable; values = c.values; count = omega (arith, ap length e, c.count); ascending = rw (e, ← keys_are) up }
 
   -- ---- what a change leaves
 
@@ -115,10 +104,3 @@ module _ {usable_keys usable_values : Bool} {order : Order} {ks vs : List Bytes}
           let at : IsAt (compared order (keys_of m.pairs) (nth ks i)) i = rw keys_are (own_place total ks c.ascending i within) in
           columns_of (omega (arith, ap length p, ap length q, length-remove ks i within, shorter, c.count))
           (pairs_removed ∙ sym (without_key_at total (nth ks i) m.pairs i at)) (IsMap-without_key total m.pairs (nth ks i) ascend)
-
-  module _ (i : ℕ) (v : Bytes) {vs' : List Bytes} (q : vs' ≡ set vs i v) where
-    pub pairs_set : zip ks vs' ≡ set_value_at m.pairs i v
-    pairs_set = rw (q, keys_are, ← view) (zip_set ks vs i v)
-
-    pub columns_set : AreColumns usable_keys usable_values order ks vs'
-    columns_set = record { keys = c.keys; values = c.values; count = omega (arith, ap length q, length-set vs i v, c.count); ascending = c.ascending }

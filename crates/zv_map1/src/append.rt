@@ -19,6 +19,7 @@ use zv_ule::{EncodeAsVarULE, VarULE, ZvArg, ZvKind, ZvOrd, ZvOrdArg};
 
 impl<K: ZvOrd, V: ZvKind, C: ZvContainer<K>, D: ZvContainer<V>> MapOver<K, V, C, D> {
     /// Whether the key is above the last one, or there is none.
+    #[tactic(auto, using(crate::proofs::Appended::ends))]
     fn is_above<Q: ZvOrdArg<K>>(&self, key: &Q) -> bool
         requires { length (Q.bytes key.now) < 2 ^ 64 }
         ensures above { result ≡ is_above K.cmp self.now.pairs (Q.bytes key.now) }
@@ -47,6 +48,7 @@ impl<
     ///
     /// # Cost
     /// One comparison. Nothing is moved.
+    #[tactic(auto, using(crate::proofs::Appended::appended_is))]
     pub fn try_append<'b, Q: ZvOrdArg<K>, R: ZvArg<V>>(
         &mut self,
         alloc: Global,
@@ -77,6 +79,7 @@ impl<
     }
 
     /// Gives a key a value, at the end where the key is above all.
+    #[tactic(auto, using(crate::proofs::Appended::none_above))]
     fn put<Q: ZvOrdArg<K>, R: ZvArg<V>>(
         &mut self,
         alloc: Global,
@@ -105,6 +108,7 @@ impl<
     ///
     /// # Cost
     /// A pair whose key is above all before it costs one comparison, any other one an insertion.
+    #[tactic(auto, using(std::proofs::lemmas::List::drop_more))]
     pub fn try_from_pairs<A: ZvOrdArg<K>, B: ZvArg<V>>(
         alloc: Global,
         pairs: &[(A, B)],

@@ -62,6 +62,7 @@ impl<'a, K: ZvOrd, V: ZvKind> ZeroMapBorrowed<'a, K, V> {
     ghost use Rattle.zv_map1.specs.Views.{keys_of, look_up, values_of};
 
     /// The map of no pairs.
+    #[tactic(auto, using(crate::proofs::Zipped::none_ascends))]
     pub fn new() -> Self
         requires keys { IsTrue K.usable }
         requires values { IsTrue V.usable }
@@ -87,6 +88,7 @@ impl<'a, K: ZvOrd, V: ZvKind> ZeroMapBorrowed<'a, K, V> {
 
     /// How many pairs there are. It reads a count.
     #[inline]
+    #[tactic(auto, using(crate::proofs::Zipped::parts))]
     pub fn len(self) -> usize
         ensures { result ≡ length (pairs_of self.entry) }
     {
@@ -103,6 +105,7 @@ impl<'a, K: ZvOrd, V: ZvKind> ZeroMapBorrowed<'a, K, V> {
 
     /// The keys' vector.
     #[inline]
+    #[tactic(auto, using(crate::proofs::Zipped::parts))]
     pub fn keys(self) -> KvSlice<'a, K>
         ensures list { list_of result ≡ keys_of (pairs_of self.entry) }
         ensures same { result ≡ self.entry.keys }
@@ -112,6 +115,7 @@ impl<'a, K: ZvOrd, V: ZvKind> ZeroMapBorrowed<'a, K, V> {
 
     /// The values' vector.
     #[inline]
+    #[tactic(auto, using(crate::proofs::Zipped::parts))]
     pub fn values(self) -> KvSlice<'a, V>
         ensures list { list_of result ≡ values_of (pairs_of self.entry) }
         ensures same { result ≡ self.entry.values }
@@ -120,6 +124,7 @@ impl<'a, K: ZvOrd, V: ZvKind> ZeroMapBorrowed<'a, K, V> {
     }
 
     /// The place of the key, or where it would go.
+    #[tactic(auto, using(crate::proofs::Zipped::parts))]
     fn place<Q: ZvOrdArg<K>>(self, key: &Q) -> Result<usize, usize>
         requires { length (Q.bytes key.now) < 2 ^ 64 }
         ensures { MatchResult result
@@ -130,6 +135,7 @@ impl<'a, K: ZvOrd, V: ZvKind> ZeroMapBorrowed<'a, K, V> {
     }
 
     /// The same, with each comparison counted as a step.
+    #[tactic(auto, using(crate::proofs::Zipped::parts))]
     fn place_counted<Q: ZvOrdArg<K>, L: Ledger>(
         self,
         key: &Q,
@@ -146,6 +152,7 @@ impl<'a, K: ZvOrd, V: ZvKind> ZeroMapBorrowed<'a, K, V> {
     }
 
     /// The value of the key, if there is one. It is one search, and takes no memory.
+    #[tactic(auto, using(crate::proofs::Found::found))]
     pub fn get<Q: ZvOrdArg<K>>(self, key: &Q) -> Option<VarRef<'a, V>>
         requires { length (Q.bytes key.now) < 2 ^ 64 }
         ensures { option_map element_of result
@@ -159,6 +166,7 @@ impl<'a, K: ZvOrd, V: ZvKind> ZeroMapBorrowed<'a, K, V> {
 
     /// The value of the key, if there is one, with each comparison counted as a step: at most as
     /// many as the number of pairs has binary digits.
+    #[tactic(auto, using(crate::proofs::Found::found))]
     pub fn get_counted<Q: ZvOrdArg<K>, L: Ledger>(
         self,
         key: &Q,

@@ -19,6 +19,7 @@ use zv_ule::{NoMemory, UsableKind, ZvKind, ZvOrd};
 
 impl<K: ZvOrd, V: ZvKind, C: ZvContainer<K> + Drop, D: ZvContainer<V> + Drop> MapOver<K, V, C, D> {
     /// The map of no pairs. It takes no memory.
+    #[tactic(auto, using(crate::proofs::Zipped::none_ascends))]
     pub fn new() -> Self
         requires keys { IsTrue K.usable }
         requires values { IsTrue V.usable }
@@ -40,6 +41,7 @@ impl<K: ZvOrd, V: ZvKind, C: ZvContainer<K> + Drop, D: ZvContainer<V> + Drop> Ma
     /// # Errors
     /// `Count` where there are not as many values as keys, else `KeyOrder` where the keys don't
     /// ascend strictly. The vectors are dropped then.
+    #[tactic(auto, using(zv_map::proofs::Ascents::sorted_from_ascends))]
     pub fn from_vecs(keys: C, values: D) -> Result<Self, VecsError>
         ensures error { result_err result ≡ columns_fault K.cmp (C.list keys) (D.list values) }
         ensures pairs { IfOk result (λ m. m.pairs ≡ zip (C.list keys) (D.list values)) }
@@ -80,6 +82,7 @@ where
 
 impl<K: ZvOrd, V: ZvKind, C: ZvContainer<K>, D: ZvContainer<V>> MapOver<K, V, C, D> {
     /// Takes all pairs out. It takes no memory, and keeps what memory the map has.
+    #[tactic(auto, using(crate::proofs::Zipped::none_ascends))]
     pub fn clear(&mut self)
         ensures pairs { self.new.pairs ≡ [] }
         ensures keys { self.new.keys.bytes ≡ [] }

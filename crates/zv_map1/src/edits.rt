@@ -63,6 +63,7 @@ impl<
     // ---- new pairs
 
     /// Whether a new pair's key and value are taken by their lists.
+    #[tactic(auto, using(crate::proofs::Zipped::parts))]
     fn takes_pair<Q: ZvArg<K>, R: ZvArg<V>>(&self, key: &Q, value: &R) -> bool
         requires key { length (Q.bytes key.now) < 2 ^ 64 }
         requires value { length (R.bytes value.now) < 2 ^ 64 }
@@ -73,6 +74,7 @@ impl<
     }
 
     /// Puts a new pair, which is taken, at its place in room that was made.
+    #[tactic(auto, using(crate::proofs::Zipped::edited))]
     fn add_reserved<Q: ZvArg<K>, R: ZvArg<V>>(&mut self, at: usize, key: &Q, value: &R)
         requires key { length (Q.bytes key.now) < 2 ^ 64 }
         requires value { length (R.bytes value.now) < 2 ^ 64 }
@@ -115,6 +117,7 @@ impl<
     // ---- values of keys that are there
 
     /// Gives the key at a place another value, and gives back the one that it had.
+    #[tactic(auto, using(crate::proofs::Zipped::edited))]
     fn replace_value<R: ZvArg<V>>(
         &mut self,
         alloc: Global,
@@ -169,6 +172,7 @@ impl<
     // ---- removals
 
     /// Takes the pair at a place out of vectors that own their bytes.
+    #[tactic(auto, using(crate::proofs::Zipped::edited))]
     fn remove_at(&mut self, at: usize)
         requires at { at < length self.old.pairs }
         requires owned { IsOwned self.old }
@@ -187,6 +191,7 @@ impl<
     }
 
     /// Takes the pair at a place out, and gives back its value.
+    #[tactic(auto, using(crate::proofs::Zipped::parts))]
     fn take_out(&mut self, alloc: Global, at: usize) -> Result<D::OwnedType, NoMemory>
         requires { at < length self.old.pairs }
         ensures pairs { OnOk result (self.new.pairs ≡ remove self.old.pairs at) }

@@ -84,6 +84,7 @@ impl<K: ZvOrd, V: ZvKind, C: ZvContainer<K> + Drop, D: ZvContainer<V> + Drop> Dr
 impl<K: ZvOrd, V: ZvKind, C: ZvContainer<K>, D: ZvContainer<V>> MapOver<K, V, C, D> {
     /// How many pairs there are. It reads a count.
     #[inline]
+    #[tactic(auto, using(crate::proofs::Zipped::parts))]
     pub fn len(&self) -> usize
         ensures { result ≡ length self.now.pairs }
     {
@@ -101,6 +102,7 @@ impl<K: ZvOrd, V: ZvKind, C: ZvContainer<K>, D: ZvContainer<V>> MapOver<K, V, C,
     /// The keys of a map are elements of their kind, and ascend. The call is for proofs: it does
     /// nothing to the map.
     #[inline]
+    #[tactic(auto, using(crate::proofs::Zipped::parts))]
     pub fn in_order(&self)
         ensures ascending { IsMap K.cmp self.now.pairs }
         ensures keys { AllByRecursion (IsElementOf K.fault) (keys_of self.now.pairs) }
@@ -110,6 +112,7 @@ impl<K: ZvOrd, V: ZvKind, C: ZvContainer<K>, D: ZvContainer<V>> MapOver<K, V, C,
 
     /// The keys' vector.
     #[inline]
+    #[tactic(auto, using(crate::proofs::Zipped::parts))]
     pub fn keys(&self) -> KvSlice<'_, K>
         ensures list { list_of result ≡ keys_of self.now.pairs }
         ensures bytes { bytes_of result ≡ self.now.keys.bytes }
@@ -119,6 +122,7 @@ impl<K: ZvOrd, V: ZvKind, C: ZvContainer<K>, D: ZvContainer<V>> MapOver<K, V, C,
 
     /// The values' vector.
     #[inline]
+    #[tactic(auto, using(crate::proofs::Zipped::parts))]
     pub fn values(&self) -> KvSlice<'_, V>
         ensures list { list_of result ≡ values_of self.now.pairs }
         ensures bytes { bytes_of result ≡ self.now.values.bytes }
@@ -139,6 +143,7 @@ impl<K: ZvOrd, V: ZvKind, C: ZvContainer<K>, D: ZvContainer<V>> MapOver<K, V, C,
     }
 
     /// The place of the key, or where it would go.
+    #[tactic(auto, using(crate::proofs::Zipped::parts))]
     pub(crate) fn place<Q: ZvOrdArg<K>>(&self, key: &Q) -> Result<usize, usize>
         requires { length (Q.bytes key.now) < 2 ^ 64 }
         ensures { MatchResult result
@@ -149,6 +154,7 @@ impl<K: ZvOrd, V: ZvKind, C: ZvContainer<K>, D: ZvContainer<V>> MapOver<K, V, C,
     }
 
     /// The same, with each comparison counted as a step.
+    #[tactic(auto, using(crate::proofs::Zipped::parts))]
     fn place_counted<Q: ZvOrdArg<K>, L: Ledger>(
         &self,
         key: &Q,
@@ -165,6 +171,7 @@ impl<K: ZvOrd, V: ZvKind, C: ZvContainer<K>, D: ZvContainer<V>> MapOver<K, V, C,
     }
 
     /// The value of the key, if there is one. It is one search, and takes no memory.
+    #[tactic(auto, using(crate::proofs::Found::found))]
     pub fn get<Q: ZvOrdArg<K>>(&self, key: &Q) -> Option<VarRef<'_, V>>
         requires { length (Q.bytes key.now) < 2 ^ 64 }
         ensures { option_map element_of result
@@ -178,6 +185,7 @@ impl<K: ZvOrd, V: ZvKind, C: ZvContainer<K>, D: ZvContainer<V>> MapOver<K, V, C,
 
     /// The value of the key, if there is one, with each comparison counted as a step: at most as
     /// many as the number of pairs has binary digits.
+    #[tactic(auto, using(crate::proofs::Found::found))]
     pub fn get_counted<Q: ZvOrdArg<K>, L: Ledger>(
         &self,
         key: &Q,
@@ -196,6 +204,7 @@ impl<K: ZvOrd, V: ZvKind, C: ZvContainer<K>, D: ZvContainer<V>> MapOver<K, V, C,
     }
 
     /// Whether the key is there. It is one search.
+    #[tactic(auto, using(crate::proofs::Found::is_there))]
     pub fn contains_key<Q: ZvOrdArg<K>>(&self, key: &Q) -> bool
         requires { length (Q.bytes key.now) < 2 ^ 64 }
         ensures { result ≡ is_some (look_up K.cmp self.now.pairs (Q.bytes key.now)) }

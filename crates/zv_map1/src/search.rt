@@ -11,6 +11,7 @@ use zv_ule::{Steps, ZvOrd, ZvOrdArg};
 
 /// The place of a key in keys that ascend, or where it would go.
 #[inline]
+#[tactic(auto, using(zv_map::proofs::Places::placed))]
 pub(crate) fn place_of<K: ZvOrd, C: ZeroVecLike<K>, Q: ZvOrdArg<K>>(
     keys: &C,
     key: &Q,

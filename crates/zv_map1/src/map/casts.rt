@@ -65,6 +65,7 @@ impl<'a, T: AsULE, P: AsULE> ConvertInto<T, P, ZeroVec<'a, P>> for ZeroVec<'a, T
 impl<K: ZvOrd, V: ZvKind, C: ZvContainer<K> + Drop, D: ZvContainer<V> + Drop> MapOver<K, V, C, D> {
     /// The same pairs with keys of a kind whose values are stored alike, and by whose order the
     /// keys ascend too. The bytes stay where they are.
+    #[tactic(auto, using(crate::proofs::Zipped::parts))]
     pub fn cast_zv_k_unchecked<P: ZvOrd, E: ZvContainer<P> + Drop>(self) -> MapOver<P, V, E, D>
     where
         C: CastInto<K, P, E>,
@@ -90,6 +91,7 @@ impl<K: ZvOrd, V: ZvKind, C: ZvContainer<K> + Drop, D: ZvContainer<V> + Drop> Ma
     ///
     /// # Errors
     /// The error of the keys' bytes as a list of the kind. The map is dropped then.
+    #[tactic(auto, using(crate::proofs::Zipped::parts))]
     pub fn try_convert_zv_k_unchecked<P: ZvOrd, E: ZvContainer<P> + Drop>(
         self,
     ) -> Result<MapOver<P, V, E, D>, UleError>

@@ -1,5 +1,0 @@
-use Rattle.zv_map1.proofs.Zipped.{keys_in}
-use Rattle.zv_map1.proofs.borrowed.ZeroMapBorrowed.place.Goals as goal
-
-pub returns : goal.returns
-returns g c = rw (keys_in c.args.self) c.place_of.ensures

@@ -1,5 +1,0 @@
-use Rattle.zv_map1.proofs.Zipped.{values_are}
-use Rattle.zv_map1.proofs.map.MapOver.values.Goals as goal
-
-pub returns-clause-list : goal.returns-clause-list
-returns-clause-list g c = rw (values_are c.self.view_is c.self.invariant) c.zvl_as_borrowed.ensures.list
