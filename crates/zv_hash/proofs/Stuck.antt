@@ -1,77 +1,56 @@
 -- Buckets choose alike wherever all before them do, so a bucket that is stuck is stuck in every table.
-use Rattle.zv_hash.proofs.Common.{◌==◌, bucket_of, ◌≡◌, ℕ, zero, suc, ◌+◌, ◌<◌, ◌≤◌, inl, inr, List, length, ap, sym, arith, refl, ◌∙◌, bucket_at, size}
-use Rattle.zv_hash.proofs.Common.{displacement, slot_at, sent_to, Fits, IsBefore, IsCandidate, IsEarlier, IsChoice, IsStuck, Chosen, count_by-le-length}
-use Rattle.zv_hash.proofs.Choices.{same_fits}
+use Rattle.zv_hash.proofs.Common.{◌==◌, bucket_of, ◌≡◌, ℕ, suc, zero, ◌+◌, ◌*◌, ◌<◌, ◌⊎◌, inl, inr, List, length, ap, sym, arith, bucket_at, size}
+use Rattle.zv_hash.proofs.Common.{count_by-le-length, displacement, sent_to, IsBefore, IsEarlier, IsChoice, IsStuck, Chosen}
+use Rattle.std.proofs.Math.Nat.{mul-le-mul_right}
+use Rattle.zv_hash.proofs.Choices.{SameSlots, same_fits}
 use Rattle.zv_hash.proofs.Slots.{bucket_below, bucket_size}
 
-transitive : (hs : List ℕ) (e f g : ℕ) → IsBefore hs e f → IsBefore hs f g → IsBefore hs e g
-transitive hs e f g h k = grind arith
+-- the buckets before g have choices
+abbrev Before : List ℕ → List (ℕ × ℕ) → ℕ → Type 0
+Before hs ds g = (f : ℕ) → f < length hs → 0 < size hs f → IsBefore hs f g → IsChoice hs ds f
+
+earlier : (hs : List ℕ) (ds : List (ℕ × ℕ)) (f g : ℕ) → IsBefore hs f g → Before hs ds g → Before hs ds f
+earlier hs ds f g b all e h some c = all e h some (grind arith)
 
 -- of two displacements one is earlier, or they are the same
 apart : (d e : ℕ × ℕ) → (IsEarlier d e → ⊥) → (IsEarlier e d → ⊥) → d ≡ e
-apart d e h k =
-    let first : d.0 ≡ e.0 = grind arith in
-    let second : d.1 ≡ e.1 = grind arith in
-    ap (λ x. (x, d.1)) first ∙ ap (λ y. (e.0, y)) second
+apart (a, b) (x, y) h k = let first : a ≡ x = grind arith in let second : b ≡ y = grind arith in cc
 
--- in two tables the buckets before g have choices
-module _ (hs : List ℕ) (g : ℕ) (ds es : List (ℕ × ℕ)) (one : (f : ℕ) → f < length hs → 0 < size hs f → IsBefore hs f g → IsChoice hs ds f)
-    (other : (f : ℕ) → f < length hs → 0 < size hs f → IsBefore hs f g → IsChoice hs es f) where
-  record IsUp (f : ℕ) : Type 0 where
-    within : f < length hs
-    some : 0 < size hs f
-    before : IsBefore hs f g
+-- where the buckets before one have the same slots, it has one choice
+same_choices : {hs : List ℕ} {ds es : List (ℕ × ℕ)} {g : ℕ} → SameSlots hs ds es g → IsChoice hs ds g → IsChoice hs es g → displacement es g ≡ displacement ds g
+same_choices same d e =
+    apart _ _ (λ less. d.first _ e.candidate less (same_fits (λ j h b. sym (same j h b)) e.fits)) (λ less. e.first _ d.candidate less (same_fits same d.fits))
 
-  abbrev Alike : ℕ → Type 0
-  Alike f = IsUp f → displacement es f ≡ displacement ds f
+-- the rank of a bucket, by its size first, rises in the order
+rank_above : (n s g t f : ℕ) → g < n → (s < t) ⊎ ((t ≡ s) × (g < f)) → s * n + g < t * n + f
+rank_above n s g t f h b = elim b [ inl more ↦ omega (arith, mul-le-mul_right n more) | inr both ↦ rw both.0 (omega arith) ]
 
-  -- where the buckets before one have the same displacements, its hashes meet the same slots
-  same_slots : (f : ℕ) → ((e : ℕ) → IsBefore hs e f → IsBefore hs e g) → ((e : ℕ) → IsBefore hs e f → Alike e) → (j : ℕ) → j < length hs
-      → IsBefore hs (bucket_at hs j) f → slot_at hs es j ≡ slot_at hs ds j
-  same_slots f up alike j h b = ap (λ d. sent_to hs d j) (alike _ b (record {
-    within = bucket_below hs j h;
-    some = bucket_size hs j h;
-    before = up _ b;
-  }))
+-- in two tables the buckets before g have the same slots, by induction on their order
+same_slots : (hs : List ℕ) (ds es : List (ℕ × ℕ)) (k g : ℕ) → g < length hs → length hs * length hs + length hs < size hs g * length hs + g + k
+    → Before hs ds g → Before hs es g → SameSlots hs ds es g
+same_slots hs ds es zero g within high one other j h b =
+    absurd (omega (arith, mul-le-mul_right (length hs) (count_by-le-length (λ h. bucket_of (length hs) h == g) hs)))
+same_slots hs ds es (suc k) g within high one other j h b =
+    let f : ℕ = bucket_at hs j in
+    let below = bucket_below hs j h in
+    let some = bucket_size hs j h in
+    let above = rank_above (length hs) (size hs g) g (size hs f) f within b in
+    let same = same_slots hs ds es k f below (omega arith) (earlier hs ds f g b one) (earlier hs es f g b other) in
+    ap (λ d. sent_to hs d j) (same_choices same (one f below some b) (other f below some b))
 
-  step : (f : ℕ) → ((e : ℕ) → IsBefore hs e f → Alike e) → Alike f
-  step f alike up =
-      let same = same_slots f (λ e b. transitive hs e f g b up.before) alike in
-      let d = one f up.within up.some up.before in
-      let c = other f up.within up.some up.before in
-      apart _ _ (λ earlier. d.first _ c.candidate earlier (same_fits (λ j h b. sym (same j h b)) c.fits))
-      (λ earlier. c.first _ d.candidate earlier (same_fits same d.fits))
-
-  -- of one size, from the highest number on
-  of_size : (s : ℕ) → ((e : ℕ) → s < size hs e → Alike e) → (i f : ℕ) → size hs f ≡ s → length hs ≤ f + i → Alike f
-  of_size s larger zero f at high up = absurd (omega arith)
-  of_size s larger (suc i) f at high up =
-      step f (λ e b. elim b [ inl more ↦ larger e (omega arith) | inr both ↦ of_size s larger i e (omega arith) (omega arith) ]) up
-
-  -- all sizes, from the largest on
-  all_alike : (j f : ℕ) → length hs < size hs f + j → Alike f
-  all_alike zero f large up = absurd (omega (arith, count_by-le-length (λ h. bucket_of (length hs) h == f) hs))
-  all_alike (suc j) f large up = of_size (size hs f) (λ e more. all_alike j e (omega arith)) (length hs) f refl (omega arith) up
-
-  -- a bucket that nothing fits in one table has no choice in the other
-  pub not_chosen : ((d : ℕ × ℕ) → IsCandidate (length hs) d → Fits hs ds g d → ⊥) → IsChoice hs es g → ⊥
-  not_chosen none choice =
-      none _ choice.candidate (same_fits
-      (λ j h b. sym (same_slots g (λ _ before. before) (λ e _. all_alike (length hs + 1) e (omega arith)) j h b)) choice.fits)
+-- a bucket that is stuck has no choice in another table
+no_choice : {hs : List ℕ} {ds : List (ℕ × ℕ)} {g : ℕ} → IsStuck hs g → Before hs ds g → IsChoice hs ds g → ⊥
+no_choice {hs} {ds} {g} stuck before choice =
+    let n : ℕ = length hs in
+    stuck.none _ choice.candidate (same_fits (same_slots hs ds stuck.ds (n * n + n + 1) g stuck.within (omega arith) before stuck.before) choice.fits)
 
 -- hashes with a bucket that is stuck have no table
 pub chosen_not_stuck : {hs : List ℕ} {ds : List (ℕ × ℕ)} {g : ℕ} → Chosen hs ds → IsStuck hs g → ⊥
-chosen_not_stuck {g = g} chosen stuck =
-    not_chosen _ g stuck.ds _ stuck.before (λ f h pos b. chosen.choices f h pos) stuck.none (chosen.choices g stuck.within stuck.some)
-
-later_not_stuck : (hs : List ℕ) (g h : ℕ) → IsStuck hs g → IsStuck hs h → IsBefore hs g h → ⊥
-later_not_stuck hs g h stuck later b =
-    not_chosen hs g stuck.ds later.ds stuck.before (λ f k pos c. later.before f k pos (transitive hs f g h c b)) stuck.none
-    (later.before g stuck.within stuck.some b)
+chosen_not_stuck {g = g} chosen stuck = no_choice stuck (λ f h some _. chosen.choices f h some) (chosen.choices g stuck.within stuck.some)
 
 -- and one bucket alone is stuck
 pub one_stuck : (hs : List ℕ) (g h : ℕ) → IsStuck hs g → IsStuck hs h → g ≡ h
 one_stuck hs g h p q =
-    let not_before = later_not_stuck hs g h p q in
-    let not_after = later_not_stuck hs h g q p in
+    let not_before = λ (b : IsBefore hs g h). no_choice p (earlier hs q.ds g h b q.before) (q.before g p.within p.some b) in
+    let not_after = λ (b : IsBefore hs h g). no_choice q (earlier hs p.ds h g b p.before) (p.before h q.within q.some b) in
     grind arith

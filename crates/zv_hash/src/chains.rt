@@ -28,6 +28,7 @@ impl Chains<'_> {
 
     /// The slot that the displacement sends the hash at a place to.
     #[inline(always)]
+    #[tactic(auto, using(crate::proofs::Slots::slot_below))]
     pub fn slot(self, displacement: (u32, u32), place: usize) -> usize
         requires { place < length self.hashes.now }
         ensures slot { result ≡ sent_to self.entry.hashes.now displacement place }
@@ -51,6 +52,7 @@ pub fn count_sizes(hashes: &[u64], sizes: &mut [u32])
 }
 
 /// Links the places of each bucket, from the last on.
+#[tactic(auto, using(crate::proofs::Links::one_link))]
 fn link(hashes: &[u64], firsts: &mut [usize], nexts: &mut [usize])
     requires ends { firsts.old ≡ replicate (length hashes.now) (length hashes.now) }
     requires room { length nexts.old ≡ length hashes.now }

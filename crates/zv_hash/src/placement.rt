@@ -58,6 +58,7 @@ fn hold(chains: Chains, bucket: usize, places: &mut [usize], d: (u32, u32))
 }
 
 /// Places one bucket, or says that it has no displacement.
+#[tactic(auto, using(crate::proofs::Slots::first_member, crate::proofs::Fillings::stuck_there))]
 fn place_bucket(
     chains: Chains,
     bucket: usize,
@@ -109,6 +110,7 @@ fn place_all_of(
 }
 
 /// Places all buckets, the largest first.
+#[tactic(auto, using(crate::proofs::Fillings::all_chosen, crate::proofs::Fillings::all_placed))]
 fn place_all(
     chains: Chains,
     sizes: &[u32],

@@ -1,5 +1,4 @@
-use Rattle.zv_hash.proofs.Common.{arith}
-use Rattle.std.proofs.lemmas.Grind.{common_steps}
+use Rattle.zv_hash.proofs.Common.{arith, common_steps}
 use Rattle.zv_hash.proofs.chains.count_sizes.Goals as goal
 
 pub loop-hash-preserved : goal.loop-hash-preserved

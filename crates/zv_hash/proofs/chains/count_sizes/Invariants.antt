@@ -1,5 +1,4 @@
-use Rattle.zv_hash.proofs.Common.{◌≡◌, ℕ, ◌<◌, ◌==◌, length, get_or, take, bucket_of}
-use Rattle.std.specs.List.{count_by}
+use Rattle.zv_hash.proofs.Common.{◌≡◌, ℕ, ◌<◌, ◌==◌, length, get_or, take, bucket_of, count_by}
 use Rattle.zv_hash.proofs.chains.count_sizes.Given as goal
 
 -- the sizes count the hashes so far

@@ -1,5 +1,5 @@
-use Rattle.zv_hash.proofs.Common.{◌≡◌, arith}
-use Rattle.zv_hash.proofs.Fillings.{none_filled, size_passed, all_chosen, all_placed}
+use Rattle.zv_hash.proofs.Common.{arith}
+use Rattle.zv_hash.proofs.Fillings.{none_filled, size_passed}
 use Rattle.zv_hash.proofs.placement.place_all.Goals as goal
 
 pub loop-wanted-init : goal.loop-wanted-init
@@ -9,9 +9,3 @@ loop-wanted-init c = none_filled c.requires.displacements c.requires.places (λ 
 pub loop-wanted-preserved : goal.loop-wanted-preserved
 loop-wanted-preserved c = size_passed (omega arith)
     (λ g h less. omega (arith, c.requires.sizes g h, c.largest_up_to-wanted-in-loop-wanted.ensures.largest g)) c.in_ok-place_all_of.ensures
-
-pub returns : goal.returns
-returns c =
-    let none : c.loop-wanted.wanted ≡ 0 = omega arith in
-    let filled = rw none at c.loop-wanted.invariant in
-    (all_chosen filled, all_placed filled)
