@@ -1,27 +1,23 @@
 -- The names that several proofs cite, passed on from one place. Declares nothing.
 pub use Rattle.std.proofs.Common.{◌≡◌, rules, ap, ◌∙◌, ℕ, List, ◌++◌, sym, arith, refl, length, [], ◌+◌, ◌∷◌, Some, take, Ok, ◌≤◌, true, None, Err, Option}
-pub use Rattle.std.proofs.Common.{drop, Result, Bool, false, subst, inl, inr, ◌-◌, ◌<◌, append_assoc, suc, codes, ◌==◌, ◌*◌, append-nil, take_all, length-take}
-pub use Rattle.std.proofs.Common.{zero, slice_index, replicate, get_or, ◌⊎◌, ◌%◌, ◌&&◌, take-append-drop, length-append, add-one, slice_set, eq-eqb}
+pub use Rattle.std.proofs.Common.{drop, Result, false, subst, ◌-◌, ◌<◌, append_assoc, codes, ◌==◌, ◌*◌, append-nil, take_all, length-take, slice_index}
+pub use Rattle.std.proofs.Common.{replicate, get_or, length-append, add-one, slice_set, eq-eqb}
 pub use Rattle.std.proofs.Math.Seq.{split_at, take-length}
 pub use Rattle.std.proofs.lemmas.Bool.{eqb-true, false_from_ne_true}
-pub use Rattle.std.proofs.lemmas.List.{take_rest, get_or-take, take_more, take_more_set}
+pub use Rattle.std.proofs.lemmas.List.{take_rest, get_or-take}
 pub use Rattle.std.proofs.lemmas.List.Elements.{All-from_get_or, All-append, All-nil}
 pub use Rattle.std.proofs.lemmas.List.Splits.{slice_split_at, slice_split_none, length-slice_split}
 pub use Rattle.std.proofs.lemmas.List.Sums.{sum_by-cons, sum_by_push}
-pub use Rattle.std.proofs.lemmas.Str.{is_utf8-from_IsUtf8, IsUtf8-from_ascii, IsUtf8-from_is_utf8}
 pub use Rattle.std.specs.List.{onto_first, slice_split, AllByRecursion}
 pub use Rattle.std.specs.Option.{option_and_then}
-pub use Rattle.std.specs.Prelude.{if◌then◌else◌, IfSome, IfOk, map, unwrap_or, sum_by, IsUtf8, is_ok, MatchResult}
+pub use Rattle.std.specs.Prelude.{IfSome, IfOk, map, unwrap_or, sum_by}
 pub use Rattle.std.specs.Result.{result_ok}
-pub use Rattle.std.specs.Str.{is_utf8}
-pub use Rattle.hex.proofs.HexLemmas.{decode_of-ok, decode_of-even}
-pub use Rattle.hex.proofs.Pairs.{prepend-cons_byte, decode_pairs-ok_pair, prepend, decode_pairs-err_pair, cons_byte, decode_start}
-pub use Rattle.hex.specs.Hex.{decode_of, pair_value, hex_digit_value}
+pub use Rattle.hex.proofs.HexLemmas.{decode_of-ok}
 pub use Rattle.memchr.specs.Find.{is_byte}
 pub use Rattle.zv_input.specs.Commands.{total_size, command_size}
 pub use Rattle.zv_input.specs.Digits.{bytes_of_digits, ◌>>=◌, content_of}
-pub use Rattle.zv_input.specs.Input.{lines, words, command_of_words, field, parse_input, commands, command_and, image_and, key, parse_lines, without_empty_last}
-pub use Rattle.zv_input.specs.Input.{row, get, del, put}
+pub use Rattle.zv_input.specs.Input.{lines, words, command_of_words, field, parse_input, commands, command_and, key, parse_lines, without_empty_last, row, get}
+pub use Rattle.zv_input.specs.Input.{del, put}
 pub use Rattle.zv_input.specs.Laws.{OfTexts, KeysAreTexts}
 pub use Rattle.zv_input.specs.Parser.{outcome_of, Lacks, first_of, size_of, words_after, after_mark, after_all, outcome_with, first_keys, if_last, kept_size}
 pub use Rattle.zv_input.specs.Sizes.{put_sizes, sizes_of, total_of, all_puts}

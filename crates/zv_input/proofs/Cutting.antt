@@ -1,5 +1,5 @@
 -- The pieces of a text: its first piece, its lines and its words.
-use Rattle.zv_input.proofs.Common.{◌≡◌, ℕ, ◌+◌, ◌-◌, ◌<◌, ◌≤◌, List, [], ◌∷◌, ◌++◌, length, get_or, take, drop, true, false, refl, sym, ap, ◌∙◌, subst, arith}
+use Rattle.zv_input.proofs.Common.{◌≡◌, ℕ, ◌+◌, ◌-◌, ◌<◌, ◌≤◌, List, [], ◌∷◌, ◌++◌, length, get_or, take, drop, true, false, refl, ap, ◌∙◌, subst, arith}
 use Rattle.zv_input.proofs.Common.{Some, None, append_assoc, add-one, Option, slice_split, eqb-true, take_all, take_rest, length-take, slice_split_at}
 use Rattle.zv_input.proofs.Common.{slice_split_none, length-slice_split, is_byte, ◌>>=◌, field, key, lines, words, Lacks, first_of, eq-eqb, option_and_then}
 use Rattle.zv_input.proofs.Common.{split_at, get_or-take, false_from_ne_true, All-append, All-from_get_or, content_of, without_empty_last, after_mark}
@@ -28,19 +28,13 @@ module _ (byte : ℕ) (text : List ℕ) where
 kept : (piece : List ℕ) (rest : List (List ℕ)) → 0 < length rest → without_empty_last (piece ∷ rest) ≡ piece ∷ without_empty_last rest
 kept piece rest some = grind arith
 
--- a line and its LF
-pub line_and : (line rest : List ℕ) → Lacks 10 line → lines (line ++ 10 ∷ rest) ≡ line ∷ lines rest
-line_and line rest lacks =
-    ap without_empty_last (slice_split_at (is_byte 10) line 10 rest lacks refl)
-    ∙ kept line (slice_split (is_byte 10) rest) (omega (arith, length-slice_split (is_byte 10) rest))
-
--- a line that came in two parts
-pub line_of_parts : (tail piece more rest after : List ℕ) → Lacks 10 tail → Lacks 10 more → piece ≡ more ++ 10 ∷ rest
-    → lines (tail ++ (piece ++ after)) ≡ (tail ++ more) ∷ lines (rest ++ after)
-line_of_parts tail piece more rest after lacks_tail lacks_more is =
-    let whole : tail ++ (piece ++ after) ≡ (tail ++ more) ++ 10 ∷ (rest ++ after) =
-    ap (λ x. tail ++ (x ++ after)) is ∙ ap (λ x. tail ++ x) (append_assoc more (10 ∷ rest) after) ∙ sym (append_assoc tail more (10 ∷ (rest ++ after))) in
-    ap lines whole ∙ line_and (tail ++ more) (rest ++ after) (All-append (λ b. is_byte 10 b ≡ false) tail more lacks_tail lacks_more)
+-- a line that came in two parts, and its LF
+pub line_and : (tail line rest after : List ℕ) → Lacks 10 tail → Lacks 10 line
+    → lines (tail ++ ((line ++ 10 ∷ rest) ++ after)) ≡ (tail ++ line) ∷ lines (rest ++ after)
+line_and tail line rest after lacks_tail lacks_line =
+    let whole : tail ++ ((line ++ 10 ∷ rest) ++ after) ≡ (tail ++ line) ++ 10 ∷ (rest ++ after) = simp append_assoc in
+    rw (whole, slice_split_at (is_byte 10) (tail ++ line) 10 (rest ++ after) (All-append (λ b. is_byte 10 b ≡ false) tail line lacks_tail lacks_line) refl)
+    (kept (tail ++ line) (slice_split (is_byte 10) (rest ++ after)) (omega (arith, length-slice_split (is_byte 10) (rest ++ after))))
 
 -- a line with no LF
 pub last_line : (line : List ℕ) → Lacks 10 line → 0 < length line → lines line ≡ line ∷ []
@@ -63,21 +57,12 @@ module _ {A : Type 0} (read inner : List ℕ → Option A) (is : (word : List �
   first_marked [] = rw (is []) refl
   first_marked (b ∷ rest) = let some = length-slice_split (is_byte 32) rest in grind (arith, is)
 
-  first_field : (text : Option (List ℕ)) (digits : List ℕ) → Some digits ≡ option_and_then after_mark text
-      → first_of read (words_after text) ≡ first_of inner (words digits)
-  first_field None digits marked = cc
-  first_field (Some text) digits marked = first_marked text ∙ ap (λ o. o >>= (λ d. first_of inner (words d))) (sym marked)
+  first_field : (text : Option (List ℕ)) → first_of read (words_after text) ≡ (option_and_then after_mark text >>= (λ d. first_of inner (words d)))
+  first_field None = refl
+  first_field (Some text) = first_marked text
 
-key_digits : (word : List ℕ) → key word ≡ (after_mark word >>= content_of 1)
-key_digits word = grind arith
+pub first_key : (text : Option (List ℕ)) → first_of key (words_after text) ≡ (option_and_then after_mark text >>= (λ d. first_of (content_of 1) (words d)))
+first_key = first_field key (content_of 1) (λ word. grind arith)
 
-field_digits : (word : List ℕ) → field word ≡ (after_mark word >>= content_of 0)
-field_digits word = grind arith
-
-pub first_key : (text : Option (List ℕ)) (digits : List ℕ) → Some digits ≡ option_and_then after_mark text
-    → first_of key (words_after text) ≡ first_of (content_of 1) (words digits)
-first_key = first_field key (content_of 1) key_digits
-
-pub first_value : (text : Option (List ℕ)) (digits : List ℕ) → Some digits ≡ option_and_then after_mark text
-    → first_of field (words_after text) ≡ first_of (content_of 0) (words digits)
-first_value = first_field field (content_of 0) field_digits
+pub first_value : (text : Option (List ℕ)) → first_of field (words_after text) ≡ (option_and_then after_mark text >>= (λ d. first_of (content_of 0) (words d)))
+first_value = first_field field (content_of 0) (λ word. grind arith)

@@ -1,5 +1,5 @@
 -- What a line's words say of its command: it is no larger than they are, and its keys are texts.
-use Rattle.zv_input.proofs.Common.{◌≡◌, ℕ, ◌+◌, ◌*◌, ◌≤◌, List, [], ◌∷◌, length, refl, arith, Some, None, IfSome, onto_first, length-slice_split, sum_by-cons}
+use Rattle.zv_input.proofs.Common.{◌≡◌, ℕ, ◌+◌, ◌*◌, ◌≤◌, List, [], ◌∷◌, length, refl, arith, None, IfSome, onto_first, length-slice_split, sum_by-cons}
 use Rattle.zv_input.proofs.Common.{is_byte, decode_of-ok, Command, Get, Put, Del, Row, command_size, ◌>>=◌, words, field, key, command_of_words, OfTexts}
 use Rattle.zv_input.proofs.Common.{first_of, sum_by, get, del, row, first_keys, if_last, put}
 use Rattle.zv_ule.specs.Kinds.{text_fault}
@@ -23,18 +23,16 @@ key_is word = let long = field_is word in grind arith
 
 -- ---- commands
 
-abbrev pub IsCommandOf : List (List ℕ) → Command → Type 0
+abbrev IsCommandOf : List (List ℕ) → Command → Type 0
 IsCommandOf ws c = (command_size c ≤ sum_by length ws) × OfTexts c
 
-pub command_is : (ws : List (List ℕ)) → IfSome (command_of_words ws) (IsCommandOf ws)
+command_is : (ws : List (List ℕ)) → IfSome (command_of_words ws) (IsCommandOf ws)
 command_is [] = tt
 command_is (name ∷ []) = grind arith
 command_is (name ∷ a ∷ []) = let k = key_is a in grind arith
 command_is (name ∷ a ∷ b ∷ []) = let k = key_is a in let l = key_is b in grind arith
 command_is (name ∷ a ∷ b ∷ c ∷ []) = let k = key_is a in let l = key_is b in let v = field_is c in grind arith
 command_is (name ∷ a ∷ b ∷ c ∷ d ∷ rest) = grind arith
-
--- ---- lines
 
 -- the words of a line are no longer than it
 onto_first_size : (b : ℕ) (ws : List (List ℕ)) → sum_by length (onto_first b ws) ≡ 1 + sum_by length ws
@@ -46,10 +44,9 @@ words_size [] = omega arith
 words_size (b ∷ rest) =
     let ih = words_size rest in let more = onto_first_size b (words rest) in grind (arith, sum_by-cons length [] (words rest))
 
-pub command_fits : (line : List ℕ) (c : Command) → command_of_words (words line) ≡ Some c → command_size c ≤ length line
-command_fits line c said =
-    let is : IfSome (Some c) (IsCommandOf (words line)) = rw said at (command_is (words line)) in
-    omega (arith, is.0, words_size line)
+-- a line's command is no larger than it, and its keys are texts
+pub line_command : (line : List ℕ) → IfSome (command_of_words (words line)) (λ c. (command_size c ≤ length line) × OfTexts c)
+line_command line = let is = command_is (words line) in let size = words_size line in grind arith
 
 -- ---- word by word
 

@@ -3,6 +3,5 @@ pub mod Common
 pub mod Cutting
 pub mod Decoding
 pub mod Fields
-pub mod Parsing
 pub mod SizesOfPuts
 pub mod Texts

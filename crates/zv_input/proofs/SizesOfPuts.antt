@@ -1,5 +1,5 @@
 -- How large puts are.
-use Rattle.zv_input.proofs.Common.{◌≡◌, ◌≤◌, List, [], ◌∷◌, ◌++◌, arith, sum_by-cons, Command, command_size, total_size, all_puts}
+use Rattle.zv_input.proofs.Common.{◌≡◌, ◌≤◌, List, [], ◌∷◌, ◌++◌, arith, sum_by-cons, sum_by_push, Command, command_size, total_size, all_puts}
 use Rattle.zv_input.proofs.Common.{put_sizes, sizes_of, total_of}
 
 -- puts are no larger than their commands
@@ -14,3 +14,5 @@ puts_within (c ∷ cs) = omega (arith, one_within c, puts_within cs, sum_by-cons
 pub put_sizes_push : (cs : List Command) (c : Command) → put_sizes (cs ++ c ∷ []) ≡ all_puts (put_sizes cs) (sizes_of c)
 put_sizes_push [] c = grind arith
 put_sizes_push (d ∷ cs) c = let ih = put_sizes_push cs c in grind arith
+
+pub ruleset added_sizes = (one_within, puts_within, put_sizes_push, sum_by_push)

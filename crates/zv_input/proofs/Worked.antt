@@ -7,6 +7,10 @@ use Rattle.zv_input.specs.Input.{parse_input}
 use Rattle.zv_input.specs.declared.commands.TheConstants.{MAX_COMMANDS}
 use Rattle.zv_input.specs.declared.input.TheConstants.{MAX_INPUT}
 
+-- what stands first in each row gives what stands second
+abbrev Gives : {A B : Type 0} → (A → B) → List (A × B) → Type 0
+Gives f rows = map (λ row. f row.0) rows ≡ map (λ row. row.1) rows
+
 -- LF
 abbrev lf : List ℕ
 lf = 10 ∷ []
@@ -18,59 +22,45 @@ a = codes "a"
 abbrev b : List ℕ
 b = codes "b"
 
--- ---- lines, words, fields
-
-lines_of_inputs : map lines ((codes "a" ++ lf ++ lf ++ codes "b") ∷ (codes "a" ++ lf) ∷ lf ∷ [] ∷ [])
-    ≡ (a ∷ [] ∷ b ∷ []) ∷ (a ∷ []) ∷ ([] ∷ []) ∷ [] ∷ []
+lines_of_inputs : Gives lines ((a ++ lf ++ lf ++ b, a ∷ [] ∷ b ∷ []) ∷ (a ++ lf, a ∷ []) ∷ (lf, [] ∷ []) ∷ ([], []) ∷ [])
 lines_of_inputs = refl
 
 words_of_two_spaces : words (codes "get  x") ≡ codes "get" ∷ [] ∷ codes "x" ∷ []
 words_of_two_spaces = refl
 
 -- digits in either case, none, an odd number, a wrong one, and no mark
-fields : map field (codes "x0aFf" ∷ codes "x" ∷ codes "x0" ∷ codes "x0g" ∷ codes "00" ∷ []) ≡ Some (10 ∷ 255 ∷ []) ∷ Some [] ∷ None ∷ None ∷ None ∷ []
+fields : Gives field ((codes "x0aFf", Some (10 ∷ 255 ∷ [])) ∷ (codes "x", Some []) ∷ (codes "x0", None) ∷ (codes "x0g", None) ∷ (codes "00", None) ∷ [])
 unfolding decode_pairs
 fields = refl
 
 -- two letters, and bytes that are no UTF-8
-keys : map key (codes "x6162" ∷ codes "xff" ∷ []) ≡ Some (codes "ab") ∷ None ∷ []
+keys : Gives key ((codes "x6162", Some (codes "ab")) ∷ (codes "xff", None) ∷ [])
 unfolding decode_pairs is_utf8 chars lib.Utf8.encode
 keys = refl
 
--- ---- inputs
-
 -- an image; a look-up; a last line without LF; every command, and a value that is no UTF-8; nothing; two spaces on line 3; a CR
-inputs : List (List ℕ)
-inputs =
-    (codes "x00ff" ++ lf)
-    ∷ (codes "x00" ++ lf ++ codes "get x61 x62" ++ lf)
-    ∷ (codes "x00" ++ lf ++ codes "get x61 x")
-    ∷ (codes "x00" ++ lf ++ codes "put x61 x xfF" ++ lf ++ codes "del x61 x62" ++ lf ++ codes "row x61" ++ lf)
-    ∷ []
-    ∷ (codes "x00" ++ lf ++ codes "get x61 x62" ++ lf ++ codes "get  x61 x62" ++ lf)
-    ∷ (codes "x00" ++ 13 ∷ lf)
-    ∷ []
-
-parsed : map parse_input inputs
-    ≡ Ok (0 ∷ 255 ∷ [], [])
-    ∷ Ok (0 ∷ [], Get a b ∷ [])
-    ∷ Ok (0 ∷ [], Get a [] ∷ [])
-    ∷ Ok (0 ∷ [], Put a [] (255 ∷ []) ∷ Del a b ∷ Row a ∷ [])
-    ∷ Err 1 ∷ Err 3 ∷ Err 1 ∷ []
-unfolding inputs parse_input decode_pairs is_utf8 chars lib.Utf8.encode
-parsed = refl
+inputs : Gives parse_input (
+    (codes "x00ff" ++ lf, Ok (0 ∷ 255 ∷ [], []))
+    ∷ (codes "x00" ++ lf ++ codes "get x61 x62" ++ lf, Ok (0 ∷ [], Get a b ∷ []))
+    ∷ (codes "x00" ++ lf ++ codes "get x61 x", Ok (0 ∷ [], Get a [] ∷ []))
+    ∷ (
+      codes "x00" ++ lf ++ codes "put x61 x xfF" ++ lf ++ codes "del x61 x62" ++ lf ++ codes "row x61" ++ lf,
+      Ok (0 ∷ [], Put a [] (255 ∷ []) ∷ Del a b ∷ Row a ∷ []),
+    )
+    ∷ ([], Err 1)
+    ∷ (codes "x00" ++ lf ++ codes "get x61 x62" ++ lf ++ codes "get  x61 x62" ++ lf, Err 3)
+    ∷ (codes "x00" ++ 13 ∷ lf, Err 1)
+    ∷ [])
+unfolding parse_input decode_pairs is_utf8 chars lib.Utf8.encode
+inputs = refl
 
 -- lines that are no commands: an empty one, one with another word, those with a word too few or too many, and those with half a
 -- byte, or with bytes for a key that are no UTF-8
-bad_lines : List (List ℕ)
-bad_lines = [] ∷ codes "set x61 x62" ∷ codes "get x61" ∷ codes "put x61 x62" ∷ codes "put x61 x62 x01 x02" ∷ codes "del x61" ∷ codes "row x61 x62"
-    ∷ codes "put x61 x62 x0" ∷ codes "get xff x62" ∷ codes "row xff" ∷ []
-
-bad_second_lines : map (λ line. parse_input (codes "x00" ++ lf ++ line ++ lf)) bad_lines ≡ replicate 10 (Err 2)
-unfolding bad_lines parse_input decode_pairs is_utf8 chars lib.Utf8.encode
+bad_second_lines : map (λ line. parse_input (codes "x00" ++ lf ++ line ++ lf)) (
+    [] ∷ codes "set x61 x62" ∷ codes "get x61" ∷ codes "put x61 x62" ∷ codes "put x61 x62 x01 x02" ∷ codes "del x61" ∷ codes "row x61 x62"
+    ∷ codes "put x61 x62 x0" ∷ codes "get xff x62" ∷ codes "row xff" ∷ []) ≡ replicate 10 (Err 2)
+unfolding parse_input decode_pairs is_utf8 chars lib.Utf8.encode
 bad_second_lines = refl
-
--- ---- sizes and limits
 
 sizes : total_size (Get a (codes "bc") ∷ Get [] [] ∷ Put a [] (1 ∷ 2 ∷ []) ∷ Del [] b ∷ Row (codes "ab") ∷ []) ≡ 14
 sizes = refl

@@ -72,6 +72,7 @@ impl Commands {
     }
 
     /// Adds a command, where the list stays within [`MAX_COMMANDS`].
+    #[tactic(auto, using(crate::proofs::SizesOfPuts::added_sizes))]
     pub fn push(&mut self, command: Command) -> Result<(), CommandsError>
         ensures ok { OnOk result (self.new ≡ self.old ++ command ∷ []) }
         ensures full { IsErrOf result CommandsError.Full

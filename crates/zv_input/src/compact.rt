@@ -31,6 +31,7 @@ enum Stored {
 const _: () = prove!(size_of::<Stored>() == 16);
 
 // Whether bytes are UTF-8. (Most texts are ASCII, which is tested faster.)
+#[tactic(auto, using(crate::proofs::Texts::text_tests))]
 #[inline]
 fn is_text(bytes: &[u8]) -> bool
     ensures { result ≡ is_utf8 bytes.now }
@@ -104,6 +105,7 @@ impl<const KIND: u8> CompactBytes<KIND> {
     /// The bytes that the hex digits of a text's first word stand for, and what follows that word's
     /// space; `None` where they stand for none, or where they aren't of the kind. Up to 12 bytes
     /// take no memory, and their digits are read once.
+    #[tactic(auto, using(crate::proofs::Decoding::lacks_space))]
     #[inline(always)]
     pub(crate) fn cut_hex(
         alloc: Global,
@@ -196,6 +198,7 @@ impl<const KIND: u8> CompactBytes<KIND> {
 
 impl CompactBytes<TEXT> {
     /// A copy of a text.
+    #[tactic(auto, using(crate::proofs::Texts::text_tests))]
     pub fn new(alloc: Global, text: &str) -> Result<Self, NoMemory>
         ensures { IfOk result (λ k. k ≡ text.now) }
     {
@@ -203,6 +206,7 @@ impl CompactBytes<TEXT> {
     }
 
     /// The text as it was given.
+    #[tactic(auto, using(crate::proofs::Texts::text_tests))]
     pub fn as_str(&self) -> &str
         ensures { result.now ≡ self.now }
     {

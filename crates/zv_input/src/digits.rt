@@ -32,6 +32,7 @@ fn value_of(digit: u8) -> u8
 
 /// Writes the bytes that the hex digits at the front of a text stand for, and gives how many they
 /// are: up to the first two that aren't digits, or as many as there is place for.
+#[tactic(auto, using(crate::proofs::Decoding::no_digit))]
 #[inline(always)]
 pub(crate) fn decode_front(text: &[u8], place: &mut [u8]) -> usize
     ensures room { result ≤ length place.new }

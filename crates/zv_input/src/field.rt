@@ -43,6 +43,7 @@ pub fn read_key(alloc: Global, word: &[u8]) -> Result<Option<KeyText>, NoMemory>
 
 /// The key that the first word of a text is, and what follows that word's space; `None` where
 /// there is no text, or the word is no key. A short key takes no memory.
+#[tactic(auto, using(crate::proofs::Cutting::first_key))]
 #[inline(always)]
 pub(crate) fn cut_key(
     alloc: Global,
@@ -59,6 +60,7 @@ pub(crate) fn cut_key(
 
 /// The bytes of the field that the first word of a text is, and what follows that word's space;
 /// `None` where there is no text, or the word is no field. Few bytes take no memory.
+#[tactic(auto, using(crate::proofs::Cutting::first_value))]
 #[inline(always)]
 pub(crate) fn cut_value(
     alloc: Global,

@@ -35,6 +35,7 @@ pub(crate) fn cut_word(text: &[u8]) -> (&[u8], Option<&[u8]>)
 
 /// What follows the space after a first word of so many bytes, if there is one; `None` where the
 /// word doesn't end there.
+#[tactic(auto, using(crate::proofs::Cutting::last_word, crate::proofs::Cutting::word_and))]
 #[inline(always)]
 pub(crate) fn after_word(text: &[u8], len: usize) -> Option<Option<&[u8]>>
     requires within { len ≤ length text.now }

@@ -81,6 +81,7 @@ fn add_lines<'t>(alloc: Global, parsed: &mut Parsed, text: &'t [u8]) -> Result<&
 }
 
 // Adds what the last line says, if there is one. No LF ends it.
+#[tactic(auto, using(crate::proofs::Cutting::last_line))]
 fn add_last(alloc: Global, parsed: &mut Parsed, line: &[u8]) -> Result<(), NoMemory>
     requires partial { Lacks 10 line.now }
     requires room { size_of parsed.old + length line.now ≤ MAX_COMMANDS }

@@ -27,7 +27,7 @@ pub use Rattle.zv_input.specs.Input.{lines, commands, parse_lines, look_lines}
 pub use Rattle.zv_tool.specs.Laws.{LeftStands, SameEdits, WrittenBack}
 pub use Rattle.zv_input.specs.Laws.{OfTexts}
 pub use Rattle.zv_tool.specs.Output.{text, image_line, bad_line, missing, added, old, too_large, cause_line, pair_text, usage_line, some, pairs, found_line}
-pub use Rattle.zv_tool.specs.Output.{Reply}
+pub use Rattle.zv_tool.specs.Output.{Reply, cause_word}
 pub use Rattle.zv_tool.specs.Program.{is_answer, Sent, is_silent, code_of, is_written, is_edit, FormWanted, status_of_form, form_of, status_of_look, FormText}
 pub use Rattle.zv_tool.specs.Program.{RequestText, Tells, is_look, first_bad, status_of_request, status_of_fault}
 pub use Rattle.zv_tool.specs.Room.{HasRoomOf, SpendsOf}

@@ -4,31 +4,18 @@ use Rattle.zv_tool.proofs.Common.{found_line, status_of_fault}
 use Rattle.zv_tool.specs.Program.{LookedText, ImageText, status_of_image}
 use Rattle.zv_map2d.specs.declared.error.EditError.{EditError}
 
--- a refused image: the line of its fault
-pub refused_text : (image : List ℕ) (cs : List Command) (cause : EditError) (text : List ℕ) → fault image ≡ Some cause
-    → text ≡ cause_line cause → ImageText image cs text
-unfolding ImageText
-refused_text image cs cause text is same = rw is same
+-- a refused image: the line of its fault, for commands and for a look-up
+pub refused : (image : List ℕ) (cause : EditError) → fault image ≡ Some cause
+    → (status_of_image image ≡ BadImage) × ((text : List ℕ) → text ≡ cause_line cause
+    → ((cs : List Command) → ImageText image cs text) × ((key0 key1 : List ℕ) → LookedText image key0 key1 text))
+unfolding ImageText LookedText status_of_image
+refused image cause is = (ap status_of_fault is, λ text same. (λ cs. rw is same, λ key0 key1. rw is same))
 
 -- another: an answer
-pub sound_text : (image : List ℕ) (cs : List Command) (text : List ℕ) → fault image ≡ None → IsAnswer image cs text → ImageText image cs text
-unfolding ImageText
-sound_text image cs text is answer = rw is answer
-
-pub refused_status : (image : List ℕ) (cause : EditError) → fault image ≡ Some cause → status_of_image image ≡ BadImage
-unfolding status_of_image
-refused_status image cause is = ap status_of_fault is
-
-pub sound_status : (image : List ℕ) → fault image ≡ None → status_of_image image ≡ Done
-unfolding status_of_image
-sound_status image is = ap status_of_fault is
-
--- ---- a look-up in an image
-
-pub refused_look : (image key0 key1 : List ℕ) (cause : EditError) (text : List ℕ) → fault image ≡ Some cause → text ≡ cause_line cause →
-    LookedText image key0 key1 text
-unfolding LookedText
-refused_look image key0 key1 cause text is same = rw is same
+pub sound : (image : List ℕ) → fault image ≡ None
+    → (status_of_image image ≡ Done) × ((cs : List Command) (text : List ℕ) → IsAnswer image cs text → ImageText image cs text)
+unfolding ImageText status_of_image
+sound image is = (ap status_of_fault is, λ cs text answer. rw is answer)
 
 -- the line of what was found
 pub found_look : (image key0 key1 a b : List ℕ) (value : Option (List ℕ)) → fault image ≡ None → a ≡ key0 → b ≡ key1 →

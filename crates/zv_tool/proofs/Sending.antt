@@ -61,6 +61,12 @@ module _ {K : Type 0} {taken : K → Option (List ℕ)} {faults : K → ℕ} whe
         cause = sent.cause;
       })
 
+  -- the same of whatever follows a text: the first part of the conclusion shows where the lemma applies
+  pub sends_more : (a b : Output K) (s : Result Unit Failed) (xs : List ℕ) → Sends taken faults a b s xs
+      → Sends taken faults a b s xs × ((r : Result Unit Failed) (ys : List ℕ) → IsErr s → r ≡ s → Sends taken faults a b r (xs ++ ys))
+      × ((c : Output K) (r : Result Unit Failed) (ys : List ℕ) → IsOk s → Sends taken faults b c r ys → Sends taken faults a c r (xs ++ ys))
+  sends_more a b s xs sent = (sent, λ r ys. sends_cut ys sent, λ c r ys ok more. sends_then sent ok more)
+
   -- a text that waits
   pub sends_later : {a b : Output K} {xs : List ℕ} → b.sink ≡ a.sink → b.piece ≡ a.piece ++ xs → Sends taken faults a b (Ok tt) xs
   sends_later {a = a} {b = b} {xs = xs} sink piece = record {

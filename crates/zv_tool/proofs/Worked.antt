@@ -2,13 +2,17 @@
 use Rattle.zv_tool.proofs.Common.{◌≡◌, ◌∷◌, [], ◌++◌, ℕ, List, length, refl, codes, true, false, replicate, canon, Rows, Command, Get, Put}
 use Rattle.zv_tool.proofs.Common.{Del, Row, Status, Done, BadLine, BadImage, Memory, WriteFault, answers, last, reply_lines, replies, some, pairs, usage_line}
 use Rattle.zv_tool.proofs.Common.{missing, added, old, too_large, text, image_line, bad_line, cause_line, is_answer, filter, map, ends, is_edit, is_written}
-use Rattle.zv_tool.proofs.Common.{Usage, ReadFault, TooLong, is_silent, code_of}
+use Rattle.zv_tool.proofs.Common.{Usage, ReadFault, TooLong, is_silent, code_of, cause_word}
 use Rattle.hex.specs.Hex.{encode_with}
 use Rattle.std.specs.Fmt.{digits}
 use Rattle.zv_ule.specs.declared.error.TyName.TheVariants.{RawBytes4, VarZeroSlice}
 use Rattle.zv_ule.specs.declared.error.UleError.TheVariants.{InvalidLength, ParseError}
 use Rattle.zv_map2d.specs.declared.error.EditError.TheVariants.{Frame, Ule, Keys0Joiner, Keys1Values, JoinerOrder, JoinerEnd, KeyOrder}
 use Rattle.zv_map2d_laws.specs.Locales.{locales}
+
+-- what stands first in each row gives what stands second
+abbrev Gives : {A B : Type 0} → (A → B) → List (A × B) → Type 0
+Gives f rows = map (λ row. f row.0) rows ≡ map (λ row. row.1) rows
 
 -- LF
 abbrev lf : List ℕ
@@ -26,8 +30,9 @@ c = codes "c"
 
 -- ---- output
 
-reply_texts : map text (some (1 ∷ 171 ∷ []) ∷ missing ∷ added ∷ old [] ∷ too_large ∷ pairs ((b, 2 ∷ []) ∷ ([], []) ∷ []) ∷ [])
-    ≡ map (λ t. t ++ lf) (codes "some x01ab" ∷ codes "none" ∷ codes "new" ∷ codes "old x" ∷ codes "toolarge" ∷ codes "row x62 x02 x x" ∷ [])
+reply_texts : Gives text (
+    (some (1 ∷ 171 ∷ []), codes "some x01ab" ++ lf) ∷ (missing, codes "none" ++ lf) ∷ (added, codes "new" ++ lf) ∷ (old [], codes "old x" ++ lf)
+    ∷ (too_large, codes "toolarge" ++ lf) ∷ (pairs ((b, 2 ∷ []) ∷ ([], []) ∷ []), codes "row x62 x02 x x" ++ lf) ∷ [])
 unfolding encode_with
 reply_texts = refl
 
@@ -36,15 +41,18 @@ other_texts : image_line (0 ∷ 255 ∷ []) ∷ bad_line 12 ∷ usage_line ∷ [
 unfolding digits encode_with
 other_texts = refl
 
-cause_texts : map cause_line (Frame ∷ Ule (InvalidLength RawBytes4 3) ∷ Ule (ParseError VarZeroSlice) ∷ Keys0Joiner ∷ Keys1Values ∷ JoinerOrder
-    ∷ JoinerEnd ∷ KeyOrder ∷ [])
-    ≡ map (λ word. codes "error " ++ word ++ lf) (codes "frame" ∷ codes "length" ∷ codes "parse" ∷ codes "keys0joiner" ∷ codes "keys1values"
-    ∷ codes "joinerorder" ∷ codes "joinerend" ∷ codes "keyorder" ∷ [])
+cause_texts : Gives cause_word (
+    (Frame, codes "frame") ∷ (Ule (InvalidLength RawBytes4 3), codes "length") ∷ (Ule (ParseError VarZeroSlice), codes "parse")
+    ∷ (Keys0Joiner, codes "keys0joiner") ∷ (Keys1Values, codes "keys1values") ∷ (JoinerOrder, codes "joinerorder") ∷ (JoinerEnd, codes "joinerend")
+    ∷ (KeyOrder, codes "keyorder") ∷ [])
 cause_texts = refl
+
+cause_text : cause_line Frame ≡ codes "error frame" ++ lf
+cause_text = refl
 
 -- ---- words and statuses
 
-edits : map is_edit ((codes "edit" ∷ []) ∷ (codes "edit" ∷ codes "more" ∷ []) ∷ [] ∷ []) ≡ true ∷ false ∷ false ∷ []
+edits : Gives is_edit ((codes "edit" ∷ [], true) ∷ (codes "edit" ∷ codes "more" ∷ [], false) ∷ ([], false) ∷ [])
 edits = refl
 
 -- every status, in the order of the program's checks
@@ -69,16 +77,31 @@ abbrev two_rows : Rows
 two_rows = (a, (codes "z", 1 ∷ []) ∷ []) ∷ (b, (a, 2 ∷ []) ∷ []) ∷ []
 
 -- of no commands; a first pair; another value; a pair that is removed twice; a row; empty fields
-whole_answers : answers [] [] ∷ answers [] (Put a b (1 ∷ []) ∷ []) ∷ answers ab (Put a b (2 ∷ 2 ∷ []) ∷ []) ∷ answers ab (Del a b ∷ Del a b ∷ [])
-    ∷ answers two_rows (Row b ∷ []) ∷ answers [] (Put [] [] [] ∷ []) ∷ []
-    ≡ (codes "image x0000000000000000000000000000000000000000000000000000000000000000" ++ lf)
-    ∷ (codes "new" ++ lf ++ codes "image x030000000000000001006104000000000000000100000003000000000000000100620300000000000000010001" ++ lf)
-    ∷ (codes "old x01" ++ lf ++ codes "image x03000000000000000100610400000000000000010000000300000000000000010062040000000000000001000202" ++ lf)
-    ∷ (codes "old x01" ++ lf ++ codes "none" ++ lf ++ codes "image x0000000000000000000000000000000000000000000000000000000000000000" ++ lf)
-    ∷ (codes "row x61 x02" ++ lf
-    ++ codes "image x0600000000000000020001006162080000000000000001000000020000000600000000000000020001007a610600000000000000020001000102" ++ lf)
-    ∷ (codes "new" ++ lf ++ codes "image x02000000000000000100040000000000000001000000020000000000000001000200000000000000" ++ codes "0100" ++ lf)
-    ∷ []
+whole_answers : Gives (λ (edit : Rows × List Command). answers edit.0 edit.1) (
+    (([], []), codes "image x0000000000000000000000000000000000000000000000000000000000000000" ++ lf)
+    ∷ (
+      ([], Put a b (1 ∷ []) ∷ []),
+      codes "new" ++ lf ++ codes "image x030000000000000001006104000000000000000100000003000000000000000100620300000000000000010001" ++ lf,
+    )
+    ∷ (
+      (ab, Put a b (2 ∷ 2 ∷ []) ∷ []),
+      codes "old x01" ++ lf ++ codes "image x03000000000000000100610400000000000000010000000300000000000000010062040000000000000001000202" ++ lf,
+    )
+    ∷ (
+      (ab, Del a b ∷ Del a b ∷ []),
+      codes "old x01" ++ lf ++ codes "none" ++ lf ++ codes "image x0000000000000000000000000000000000000000000000000000000000000000" ++ lf,
+    )
+    ∷ (
+      (two_rows, Row b ∷ []),
+      codes "row x61 x02" ++ lf
+          ++ codes "image x0600000000000000020001006162080000000000000001000000020000000600000000000000020001007a610600000000000000020001000102" ++ lf,
+    )
+    ∷ (
+      ([], Put [] [] [] ∷ []),
+      codes "new" ++ lf
+          ++ codes "image x020000000000000001000400000000000000010000000200000000000000010002000000000000000100" ++ lf,
+    )
+    ∷ [])
 unfolding encode_with
 whole_answers = refl
 
@@ -103,13 +126,11 @@ locale_replies : replies locales of_locales
 unfolding of_locales
 locale_replies = refl
 
-locale_ends : ends (last locales of_locales) ≡ 2 ∷ 3 ∷ 4 ∷ 6 ∷ 7 ∷ 8 ∷ 9 ∷ 11 ∷ 13 ∷ 14 ∷ 15 ∷ 16 ∷ 17 ∷ 18 ∷ 21 ∷ 22 ∷ 23 ∷ 24 ∷ 25 ∷ 26 ∷ 28 ∷ []
+-- how long their image is then, and where their rows end
+locales_left : length (canon (last locales of_locales)) ∷ ends (last locales of_locales)
+    ≡ 487 ∷ 2 ∷ 3 ∷ 4 ∷ 6 ∷ 7 ∷ 8 ∷ 9 ∷ 11 ∷ 13 ∷ 14 ∷ 15 ∷ 16 ∷ 17 ∷ 18 ∷ 21 ∷ 22 ∷ 23 ∷ 24 ∷ 25 ∷ 26 ∷ 28 ∷ []
 unfolding of_locales
-locale_ends = refl
-
-locale_image : length (canon (last locales of_locales)) ≡ 487
-unfolding of_locales
-locale_image = refl
+locales_left = refl
 
 -- ---- values that do not fit
 

@@ -69,6 +69,7 @@ impl<'s, K: Sink> Output<'s, K> {
     }
 
     // The same in pieces.
+    #[tactic(auto, using(crate::proofs::Sending::sends_more))]
     #[inline(never)]
     fn write_pieces(&mut self, text: &[u8]) -> Result<(), Failed>
         ensures { Sends K.taken K.faults self.old self.new result text.now }
@@ -99,6 +100,7 @@ impl<'s, K: Sink> Output<'s, K> {
     }
 
     /// Adds the hex digits of bytes.
+    #[tactic(auto, using(crate::proofs::PartTexts::digits_sent))]
     pub(crate) fn write_hex(&mut self, bytes: &[u8]) -> Result<(), Failed>
         ensures { Sends K.taken K.faults self.old self.new result (encode_lower bytes.now) }
     {
@@ -112,6 +114,7 @@ impl<'s, K: Sink> Output<'s, K> {
     }
 
     // The same in pieces.
+    #[tactic(auto, using(crate::proofs::Sending::sends_more))]
     #[inline(never)]
     fn write_long_field(&mut self, head: &[u8], bytes: &[u8]) -> Result<(), Failed>
         ensures { Sends K.taken K.faults self.old self.new result

@@ -23,6 +23,7 @@ use zv_map2d::{Iter1, Place};
 use zv_ule::{SliceULE, StrULE, VarRef};
 
 /// Writes a line of a head, which ends with the mark of a field, and a value.
+#[tactic(auto, using(crate::proofs::Sending::sends_more))]
 #[inline(always)]
 pub(crate) fn write_value<K: Sink>(
     out: &mut Output<'_, K>,
@@ -37,6 +38,7 @@ pub(crate) fn write_value<K: Sink>(
 }
 
 // Writes a pair of a row.
+#[tactic(auto, using(crate::proofs::Sending::sends_more))]
 fn write_pair<K: Sink>(out: &mut Output<'_, K>, key: &[u8], value: &[u8]) -> Result<(), Failed>
     ensures { Sends K.taken K.faults out.old out.new result (pair_text (key.now, value.now)) }
 {
@@ -45,6 +47,7 @@ fn write_pair<K: Sink>(out: &mut Output<'_, K>, key: &[u8], value: &[u8]) -> Res
 }
 
 // Writes the pairs of a row.
+#[tactic(auto, using(crate::proofs::Sending::sends_more))]
 fn write_pairs<K: Sink>(
     out: &mut Output<'_, K>,
     pairs: Iter1<'_, StrULE, SliceULE<u8>>,
@@ -163,6 +166,7 @@ fn del<K: Sink>(
 }
 
 // Replies with a row.
+#[tactic(auto, using(crate::proofs::Sending::sends_more))]
 fn row<K: Sink>(out: &mut Output<'_, K>, map: &ImageMap<'_>, key0: &KeyText) -> Result<(), Failed>
     ensures { Sends K.taken K.faults out.old out.new result
         (text (reply map.now.rows (Command.Row key0.now))) }

@@ -20,6 +20,7 @@ use zv_map2d::Parts;
 use zv_var::frame::part_len;
 
 // Writes the hex digits of a part after its length.
+#[tactic(auto, using(crate::proofs::Sending::sends_more, crate::proofs::PartTexts::in_two))]
 fn write_part<K: Sink>(out: &mut Output<'_, K>, part: &[u8]) -> Result<(), Failed>
     ensures { Sends K.taken K.faults out.old out.new result (encode_lower (framed part.now)) }
 {
@@ -28,6 +29,7 @@ fn write_part<K: Sink>(out: &mut Output<'_, K>, part: &[u8]) -> Result<(), Faile
 }
 
 // Writes the hex digits of the image of four parts.
+#[tactic(auto, using(crate::proofs::PartTexts::parts_sent))]
 fn write_parts<K: Sink>(out: &mut Output<'_, K>, parts: Parts<'_>) -> Result<(), Failed>
     ensures { Sends K.taken K.faults out.old out.new result
         (encode_lower (frame (bytes_of parts.entry))) }
@@ -39,6 +41,7 @@ fn write_parts<K: Sink>(out: &mut Output<'_, K>, parts: Parts<'_>) -> Result<(),
 }
 
 // Writes the line of the image of four parts, and sends it.
+#[tactic(auto, using(crate::proofs::Sending::sends_more))]
 fn write_image<K: Sink>(out: &mut Output<'_, K>, parts: Parts<'_>) -> Result<(), Failed>
     ensures text { Sends K.taken K.faults out.old out.new result
         (image_line (frame (bytes_of parts.entry))) }
@@ -70,6 +73,7 @@ fn run_commands<K: Sink>(
 }
 
 // Runs commands, and writes and sends the whole answer.
+#[tactic(auto, using(crate::proofs::Sending::sends_more))]
 fn write_answer<K: Sink>(
     out: &mut Output<'_, K>,
     map: &mut ImageMap<'_>,

@@ -1,27 +1,17 @@
-use Rattle.zv_input.proofs.Common.{◌≡◌, ◌∷◌, ◌++◌, [], ◌∙◌, ap, Some, arith, rules, sum_by_push, total_size, command_size, words, command_of_words, image_and}
-use Rattle.zv_input.proofs.Common.{outcome_of, size_of}
-use Rattle.zv_input.proofs.Fields.{command_fits}
-use Rattle.zv_input.proofs.Parsing.{one_more_command}
+use Rattle.zv_input.proofs.Common.{◌≡◌, ℕ, List, [], ◌∷◌, ◌++◌, Some, Result, append_assoc, arith, sum_by_push, Command, command_and, command_size, after_all}
+use Rattle.std.proofs.lemmas.Grind.{common_steps}
+use Rattle.zv_input.proofs.Fields.{line_command}
 use Rattle.zv_input.proofs.parser.add_line.Goals as goal
 
+-- a command goes to those before it
+after_push : (cs : List Command) (c : Command) (n : ℕ) (r : Result (List Command) ℕ) → after_all cs (command_and n (Some c) r) ≡ after_all (cs ++ c ∷ []) r
+after_push cs c n r = grind (arith, append_assoc)
+
 pub keep-requires : goal.keep-requires
-keep-requires c =
-    let said : command_of_words (words c.args.line.now) ≡ Some c.in-Some.command = search rules in
-    let before = ap size_of c.in-Good.is in
-    omega (arith, command_fits c.args.line.now c.in-Some.command said)
+keep-requires c = let size = line_command c.args.line.now in grind arith
 
 pub returns-in_ok-keep-in-Some : goal.returns-in_ok-keep-in-Some
 returns-in_ok-keep-in-Some c =
-    let line = c.args.line.now in
-    let command = c.in-Some.command in
-    let request = c.in-Good.request in
-    let said : command_of_words (words line) ≡ Some command = search rules in
-    let grown : c.keep.new.commands ≡ request.commands ++ command ∷ [] = c.in_ok-keep-in-Some.ensures in
-    let size = ap total_size grown ∙ sum_by_push command_size request.commands command in
-    let before = ap size_of c.in-Good.is in
-    record {
-      same = λ rest.
-          ap (λ parsed. outcome_of parsed (line ∷ rest)) c.in-Good.is
-          ∙ rw grown (ap (image_and (Some request.image.items)) (one_more_command request.commands command line rest said));
-      fits = omega (arith, command_fits line command said);
-    }
+    let size = line_command c.args.line.now in
+    let sum = sum_by_push command_size c.in-Good.request.commands c.in-Some.command in
+    record { same = λ rest. grind (arith, common_steps, after_push); fits = grind (arith, common_steps) }

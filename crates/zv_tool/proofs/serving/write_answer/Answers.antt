@@ -1,10 +1,7 @@
 use Rattle.zv_tool.proofs.Common.{◌≡◌, ◌++◌, ◌∙◌, List, ℕ, length, take_all, sym, ap, rules, arith, frame, canon, bytes_of, last, reply_lines, image_line}
 use Rattle.zv_tool.proofs.Served.{at_err}
-use Rattle.zv_tool.proofs.Sending.{sends_as, sends_cut, sends_then}
+use Rattle.zv_tool.proofs.Sending.{sends_as, sends_then}
 use Rattle.zv_tool.proofs.serving.write_answer.Goals as goal
-
-pub returns-in_err-run_commands-clause-text : goal.returns-in_err-run_commands-clause-text
-returns-in_err-run_commands-clause-text g c = sends_cut _ c.run_commands.ensures.text (search rules) (search rules)
 
 pub returns-clause-text : goal.returns-clause-text
 returns-clause-text g c =

@@ -1,17 +1,16 @@
 use Rattle.zv_input.proofs.Common.{◌≡◌, ◌∷◌, ◌++◌, ◌∙◌, ap, rules, lines, outcome_of}
-use Rattle.zv_input.proofs.Cutting.{line_of_parts}
+use Rattle.zv_input.proofs.Cutting.{line_and}
 use Rattle.zv_input.proofs.parser.Parser.take.Goals as goal
 
 pub returns-in_ok-self-clause-same : goal.returns-in_ok-self-clause-same
 returns-in_ok-self-clause-same c =
     let tail = c.args.self.now.tail.items in
-    let piece = c.args.piece.now in
     let more = c.split_at_byte.result.0.now in
     let rest = c.in-Some.rest.now in
-    let cut : piece ≡ more ++ 10 ∷ rest = search rules in
+    let cut : c.args.piece.now ≡ more ++ 10 ∷ rest = search rules in
     let whole : c.deref.result.now ≡ tail ++ more = search rules in
     let kept : c.in_ok-self.field-0.items ≡ c.in_ok-tail.tail.now = search rules in
     λ after.
-    let first = line_of_parts tail piece more rest after c.requires.partial c.split_at_byte.ensures.before cut in
     let one = rw whole at (c.in_ok-add_line.ensures.same (lines (rest ++ after))) in
-    ap (outcome_of c.args.self.now.parsed) first ∙ one ∙ rw kept (c.in_ok-tail.ensures.same after)
+    ap (outcome_of c.args.self.now.parsed) (rw cut (line_and tail more rest after c.requires.partial c.split_at_byte.ensures.before)) ∙ one
+    ∙ rw kept (c.in_ok-tail.ensures.same after)

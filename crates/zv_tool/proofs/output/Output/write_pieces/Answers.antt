@@ -1,9 +1,6 @@
 use Rattle.zv_tool.proofs.Common.{rules, ◌≡◌, ◌++◌, refl, nil_from_length}
-use Rattle.zv_tool.proofs.Sending.{completes_more, completes_cut, completes_none, sends_then, sends_later}
+use Rattle.zv_tool.proofs.Sending.{completes_more, completes_none, sends_then, sends_later}
 use Rattle.zv_tool.proofs.output.Output.write_pieces.Goals as goal
-
-pub returns-in_err-make_room : goal.returns-in_err-make_room
-returns-in_err-make_room g c = completes_cut _ c.loop-rest.invariant refl c.make_room.ensures.text (search rules) (search rules)
 
 pub loop-rest-preserved : goal.loop-rest-preserved
 loop-rest-preserved g c =
