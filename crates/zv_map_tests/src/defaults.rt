@@ -1,12 +1,35 @@
 // The maps that `Default` gives.
-use zv_map1::{ZeroMap, ZeroMapBorrowed};
-use zv_map2d::{ZeroMap2d, ZeroMap2dBorrowed};
+use std::process::Abort;
+use zv_map::{MutableZeroVecLike, ZeroMapKV, ZvContainer};
+use zv_map1::{MapOver, ZeroMapBorrowed};
+use zv_map2d::{Map2dOver, ZeroMap2dBorrowed};
 use zv_ule::StrULE;
+
+type Of<'a, K> = <K as ZeroMapKV<'a>>::Container;
+
+// The map in one level, and a view of none.
+fn are_empty_in_one_level<C, D>(rt: &impl Abort)
+where
+    C: ZvContainer<u32> + Drop,
+    D: ZvContainer<StrULE> + Drop,
+{
+    assert!(rt; MapOver::<u32, StrULE, C, D>::default().is_empty());
+    assert!(rt; ZeroMapBorrowed::<'_, StrULE, u8>::default().is_empty());
+}
+
+// The map in two levels, and a view of none.
+fn are_empty_in_two_levels<'a, C0, C1, D>(rt: &impl Abort)
+where
+    C0: MutableZeroVecLike<'a, StrULE>,
+    C1: MutableZeroVecLike<'a, u16>,
+    D: MutableZeroVecLike<'a, StrULE>,
+{
+    assert!(rt; Map2dOver::<'a, StrULE, u16, StrULE, C0, C1, D>::default().is_empty());
+    assert!(rt; ZeroMap2dBorrowed::<'_, u16, StrULE, bool>::default().is_empty());
+}
 
 #[test]
 fn default_maps_are_empty(rt: HostRuntime) {
-    assert!(rt; ZeroMap::<'_, u32, StrULE>::default().is_empty());
-    assert!(rt; ZeroMapBorrowed::<'_, StrULE, u8>::default().is_empty());
-    assert!(rt; ZeroMap2d::<'_, StrULE, u16, StrULE>::default().is_empty());
-    assert!(rt; ZeroMap2dBorrowed::<'_, u16, StrULE, bool>::default().is_empty());
+    are_empty_in_one_level::<Of<'_, u32>, Of<'_, StrULE>>(&rt);
+    are_empty_in_two_levels::<Of<'_, StrULE>, Of<'_, u16>, Of<'_, StrULE>>(&rt);
 }

@@ -5,8 +5,8 @@ use crate::counted::CountingKey;
 use std::cell::Cell;
 use std::process::Abort;
 use std::test::Fail;
-use zv_map::ZvContainer;
-use zv_map2d::{Map2dOver, ZeroMap2d};
+use zv_map::{MutableZeroVecLike, ZeroMapKV, ZvContainer};
+use zv_map2d::Map2dOver;
 use zv_ule::{SliceULE, StrULE};
 
 const KEYS0: &[u8] = b"\
@@ -64,7 +64,9 @@ const PAIRS: [(&str, &str, usize); 28] = [
     ("zh", "Hant", 3),
 ];
 
-type Locales<'a> = ZeroMap2d<'a, StrULE, StrULE, SliceULE<u8>>;
+type Locales<'a, C0, C1, D> = Map2dOver<'a, StrULE, StrULE, SliceULE<u8>, C0, C1, D>;
+
+type Of<'a, K> = <K as ZeroMapKV<'a>>::Container;
 
 // The number of binary digits.
 fn digits(n: usize) -> usize {
@@ -133,10 +135,20 @@ fn halve_their_keys<M: Counts>(rt: &impl Abort, map: &M, pairs: &[(&str, &str, u
     }
 }
 
+// The look-ups in the map of all locales do.
+fn halves_its_keys<'a, C0, C1, D>(rt: &impl Abort) -> Result<(), Fail>
+where
+    C0: MutableZeroVecLike<'a, StrULE>,
+    C1: MutableZeroVecLike<'a, StrULE>,
+    D: MutableZeroVecLike<'a, SliceULE<u8>>,
+{
+    let map = Locales::<'a, C0, C1, D>::parse_parts(KEYS0, JOINER, KEYS1, VALUES)?;
+    assert!(rt; map.rows() == 21);
+    halve_their_keys(rt, &map, &PAIRS);
+    Ok(())
+}
+
 #[test]
 fn look_ups_halve_their_keys(rt: HostRuntime) -> Result<(), Fail> {
-    let map = Locales::parse_parts(KEYS0, JOINER, KEYS1, VALUES)?;
-    assert!(rt; map.rows() == 21);
-    halve_their_keys(&rt, &map, &PAIRS);
-    Ok(())
+    halves_its_keys::<Of<'_, StrULE>, Of<'_, StrULE>, Of<'_, SliceULE<u8>>>(&rt)
 }

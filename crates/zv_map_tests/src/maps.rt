@@ -189,7 +189,7 @@ const THEN: [Change; 8] = [
 ];
 
 // The first changes make four rows with seven pairs, and then others leave the three rows.
-fn come_and_go<M: TextMap>(rt: &impl Abort, alloc: Global, first: &[Change]) -> Result<(), Fail> {
+fn change_a_map<M: TextMap>(rt: &impl Abort, alloc: Global, first: &[Change]) -> Result<(), Fail> {
     let mut map = M::empty();
     assert!(rt; map.refuses_room(alloc));
     make_changes(rt, &mut map, alloc, first)?;
@@ -201,14 +201,15 @@ fn come_and_go<M: TextMap>(rt: &impl Abort, alloc: Global, first: &[Change]) -> 
     Ok(())
 }
 
-#[test]
-fn rows_come_and_go(rt: HostRuntime) -> Result<(), Fail> {
-    come_and_go::<Texts<'_>>(&rt, rt.alloc(), &PUTS)
+// The four rows are put, and in another map appended.
+fn come_and_go<M: TextMap>(rt: &impl Abort, alloc: Global) -> Result<(), Fail> {
+    change_a_map::<M>(rt, alloc, &PUTS)?;
+    change_a_map::<M>(rt, alloc, &APPENDS)
 }
 
 #[test]
-fn pairs_are_appended(rt: HostRuntime) -> Result<(), Fail> {
-    come_and_go::<Texts<'_>>(&rt, rt.alloc(), &APPENDS)
+fn rows_come_and_go_put_or_appended(rt: HostRuntime) -> Result<(), Fail> {
+    come_and_go::<Texts<'_>>(&rt, rt.alloc())
 }
 
 // ---- a map from a text and a number to bytes

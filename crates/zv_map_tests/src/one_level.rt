@@ -29,7 +29,10 @@ fn has_pairs(rt: &impl Abort, map: ZeroMapBorrowed<'_, u32, StrULE>, pairs: &[(u
 
 // What an insertion or a removal gave back is this name.
 fn was(old: Option<VarBox<StrULE>>, name: &str) -> bool {
-    old.is_some_and(|old| *old.as_bytes() == *name.as_bytes())
+    match old {
+        Some(old) => *old.as_bytes() == *name.as_bytes(),
+        None => false,
+    }
 }
 
 // The map of the pair (1, "dos") is changed.
@@ -139,31 +142,53 @@ const KEYS: &[u8] = &[1, 0, 0, 0, 2, 0, 0, 0];
 
 const NAMES: &[u8] = b"\x02\0\x03\0unodos";
 
+// A view of the names makes their map again.
+fn is_made_again<'a, C, D>(rt: &impl Abort, map: &'a Names<C, D>)
+where
+    C: MutableZeroVecLike<'a, u32>,
+    D: MutableZeroVecLike<'a, StrULE>,
+{
+    let view = map.as_borrowed();
+    has_pairs(rt, view, &[(1, "uno"), (2, "dos")]);
+    let Some(again) = Names::<C, D>::from_borrowed(view) else {
+        panic!(rt; "the views fit");
+    };
+    assert!(rt; again.same(view));
+    assert!(rt; !view.same(ZeroMapBorrowed::new()));
+}
+
 #[test]
 fn bytes_are_viewed(rt: HostRuntime) -> Result<(), Fail> {
     let Ok(map) = parse::<Of<'_, u32>, Of<'_, StrULE>>(KEYS, NAMES)? else {
         panic!(rt; "the keys ascend");
     };
-    let view = map.as_borrowed();
-    has_pairs(&rt, view, &[(1, "uno"), (2, "dos")]);
-    let again = Names::<Of<'_, u32>, Of<'_, StrULE>>::from_borrowed(view);
-    assert!(rt; again.is_some_and(|again| again.same(view)));
-    assert!(rt; !view.same(ZeroMapBorrowed::new()));
+    is_made_again(&rt, &map);
     Ok(())
 }
 
-// The bytes are no map, for this reason.
-fn are_refused(rt: &impl Abort, keys: &[u8], values: &[u8], fault: VecsError) -> Result<(), Fail> {
-    let found = parse::<Of<'_, u32>, Of<'_, StrULE>>(keys, values)?;
-    assert!(rt; found.err() == Some(fault));
+// Bytes of keys that make no map with the names, and why.
+const REFUSALS: [(&[u8], VecsError); 3] = [
+    (&[1, 0, 0, 0], VecsError::Count),
+    (&[2, 0, 0, 0, 1, 0, 0, 0], VecsError::KeyOrder),
+    (&[2, 0, 0, 0, 2, 0, 0, 0], VecsError::KeyOrder),
+];
+
+// Each of them is refused.
+fn are_refused<'a, C, D>(rt: &impl Abort) -> Result<(), Fail>
+where
+    C: MutableZeroVecLike<'a, u32>,
+    D: MutableZeroVecLike<'a, StrULE>,
+{
+    for (keys, fault) in REFUSALS {
+        let found = parse::<C, D>(keys, NAMES)?;
+        assert!(rt; found.err() == Some(fault));
+    }
     Ok(())
 }
 
 #[test]
 fn vectors_that_are_no_map(rt: HostRuntime) -> Result<(), Fail> {
-    are_refused(&rt, &KEYS[..4], NAMES, VecsError::Count)?;
-    are_refused(&rt, &[2, 0, 0, 0, 1, 0, 0, 0], NAMES, VecsError::KeyOrder)?;
-    are_refused(&rt, &[2, 0, 0, 0, 2, 0, 0, 0], NAMES, VecsError::KeyOrder)
+    are_refused::<Of<'_, u32>, Of<'_, StrULE>>(&rt)
 }
 
 // ---- the size rule
