@@ -14,12 +14,10 @@ pub use Rattle.std.specs.Prelude.{IfSome, IfOk, map, unwrap_or, sum_by}
 pub use Rattle.std.specs.Result.{result_ok}
 pub use Rattle.hex.proofs.HexLemmas.{decode_of-ok}
 pub use Rattle.memchr.specs.Find.{is_byte}
-pub use Rattle.zv_input.specs.Commands.{total_size, command_size}
+pub use Rattle.zv_input.specs.Commands.{total_size, command_size, OfTexts}
 pub use Rattle.zv_input.specs.Digits.{bytes_of_digits, ◌>>=◌, content_of}
-pub use Rattle.zv_input.specs.Input.{lines, words, command_of_words, field, parse_input, commands, command_and, key, parse_lines, without_empty_last, row, get}
-pub use Rattle.zv_input.specs.Input.{del, put}
-pub use Rattle.zv_input.specs.Laws.{OfTexts, KeysAreTexts}
-pub use Rattle.zv_input.specs.Parser.{outcome_of, Lacks, first_of, size_of, words_after, after_mark, after_all, outcome_with, first_keys, if_last, kept_size}
+pub use Rattle.zv_input.specs.Input.{lines, words, command_of_words, field, key, without_empty_last, row, get, del, put}
+pub use Rattle.zv_input.specs.Words.{Lacks, first_of, words_after, after_mark, first_keys, if_last}
 pub use Rattle.zv_input.specs.Sizes.{put_sizes, sizes_of, total_of, all_puts}
 pub use Rattle.zv_input.specs.declared.command.Command.{Command}
 pub use Rattle.zv_input.specs.declared.command.Command.TheVariants.{Get, Put, Del, Row}

@@ -1,11 +1,9 @@
 -- Worked rows of the definitions, computed.
-use Rattle.zv_input.proofs.Common.{◌≡◌, ◌∷◌, [], ◌++◌, ℕ, List, refl, codes, Ok, Err, Some, None, replicate, map, Get, Put, Del, Row}
-use Rattle.zv_input.proofs.Common.{total_size, lines, words, field, key}
+use Rattle.zv_input.proofs.Common.{◌≡◌, ◌∷◌, [], ◌++◌, ℕ, List, refl, codes, Some, None, replicate, map, Get, Put, Del, Row}
+use Rattle.zv_input.proofs.Common.{total_size, lines, words, command_of_words, field, key}
 use Rattle.std.specs.Str.{is_utf8, chars}
 use Rattle.hex.specs.Hex.{decode_pairs}
-use Rattle.zv_input.specs.Input.{parse_input}
 use Rattle.zv_input.specs.declared.commands.TheConstants.{MAX_COMMANDS}
-use Rattle.zv_input.specs.declared.input.TheConstants.{MAX_INPUT}
 
 -- what stands first in each row gives what stands second
 abbrev Gives : {A B : Type 0} → (A → B) → List (A × B) → Type 0
@@ -38,32 +36,23 @@ keys : Gives key ((codes "x6162", Some (codes "ab")) ∷ (codes "xff", None) ∷
 unfolding decode_pairs is_utf8 chars lib.Utf8.encode
 keys = refl
 
--- an image; a look-up; a last line without LF; every command, and a value that is no UTF-8; nothing; two spaces on line 3; a CR
-inputs : Gives parse_input (
-    (codes "x00ff" ++ lf, Ok (0 ∷ 255 ∷ [], []))
-    ∷ (codes "x00" ++ lf ++ codes "get x61 x62" ++ lf, Ok (0 ∷ [], Get a b ∷ []))
-    ∷ (codes "x00" ++ lf ++ codes "get x61 x", Ok (0 ∷ [], Get a [] ∷ []))
-    ∷ (
-      codes "x00" ++ lf ++ codes "put x61 x xfF" ++ lf ++ codes "del x61 x62" ++ lf ++ codes "row x61" ++ lf,
-      Ok (0 ∷ [], Put a [] (255 ∷ []) ∷ Del a b ∷ Row a ∷ []),
-    )
-    ∷ ([], Err 1)
-    ∷ (codes "x00" ++ lf ++ codes "get x61 x62" ++ lf ++ codes "get  x61 x62" ++ lf, Err 3)
-    ∷ (codes "x00" ++ 13 ∷ lf, Err 1)
-    ∷ [])
-unfolding parse_input decode_pairs is_utf8 chars lib.Utf8.encode
-inputs = refl
+-- every command, with fields that are empty, and a value that is no UTF-8
+command_lines : Gives (λ line. command_of_words (words line)) (
+    (codes "get x61 x62", Some (Get a b)) ∷ (codes "get x61 x", Some (Get a [])) ∷ (codes "put x61 x xfF", Some (Put a [] (255 ∷ [])))
+    ∷ (codes "del x61 x62", Some (Del a b)) ∷ (codes "row x61", Some (Row a)) ∷ [])
+unfolding decode_pairs is_utf8 chars lib.Utf8.encode
+command_lines = refl
 
 -- lines that are no commands: an empty one, one with another word, those with a word too few or too many, and those with half a
--- byte, or with bytes for a key that are no UTF-8
-bad_second_lines : map (λ line. parse_input (codes "x00" ++ lf ++ line ++ lf)) (
+-- byte, or with bytes for a key that are no UTF-8; two spaces, and a CR
+bad_lines : map (λ line. command_of_words (words line)) (
     [] ∷ codes "set x61 x62" ∷ codes "get x61" ∷ codes "put x61 x62" ∷ codes "put x61 x62 x01 x02" ∷ codes "del x61" ∷ codes "row x61 x62"
-    ∷ codes "put x61 x62 x0" ∷ codes "get xff x62" ∷ codes "row xff" ∷ []) ≡ replicate 10 (Err 2)
-unfolding parse_input decode_pairs is_utf8 chars lib.Utf8.encode
-bad_second_lines = refl
+    ∷ codes "put x61 x62 x0" ∷ codes "get xff x62" ∷ codes "row xff" ∷ codes "get  x61 x62" ∷ (codes "row x61" ++ 13 ∷ []) ∷ []) ≡ replicate 12 None
+unfolding decode_pairs is_utf8 chars lib.Utf8.encode
+bad_lines = refl
 
 sizes : total_size (Get a (codes "bc") ∷ Get [] [] ∷ Put a [] (1 ∷ 2 ∷ []) ∷ Del [] b ∷ Row (codes "ab") ∷ []) ≡ 14
 sizes = refl
 
-limits : MAX_INPUT ∷ MAX_COMMANDS ∷ [] ≡ 16777216 ∷ 16777216 ∷ []
-limits = refl
+limit : MAX_COMMANDS ≡ 16777216
+limit = refl

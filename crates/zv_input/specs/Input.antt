@@ -1,17 +1,13 @@
--- What an input says: its lines, fields and commands.
-use Rattle.std.specs.Prelude.{◌≡◌, ℕ, ◌+◌, ◌==◌, if◌then◌else◌, List, [], ◌∷◌, codes}
-use Rattle.std.specs.Prelude.{bytes_eq, Result}
+-- What lines say: their words, fields and commands.
+use Rattle.std.specs.Prelude.{ℕ, ◌==◌, if◌then◌else◌, List, [], ◌∷◌, codes, bytes_eq}
 use Rattle.std.specs.List.{slice_split}
 use Rattle.std.specs.Str.{is_utf8}
 use Rattle.std.specs.declared.option.Option.{Option}
 use Rattle.std.specs.declared.option.Option.TheVariants.{Some, None}
-use Rattle.std.specs.declared.result.Result.TheVariants.{Ok, Err}
 use Rattle.memchr.specs.Find.{is_byte}
 use Rattle.zv_input.specs.Digits.{◌>>=◌, bytes_of_digits}
 use Rattle.zv_input.specs.declared.command.Command.{Command}
 use Rattle.zv_input.specs.declared.command.Command.TheVariants.{Get, Put, Del, Row}
-use Rattle.zv_input.specs.declared.parse.InputError.{InputError}
-use Rattle.zv_input.specs.declared.parse.InputError.TheVariants.{BadLine, Memory}
 
 -- ---- lines and words
 
@@ -114,52 +110,3 @@ command_of name fields =
 abbrev pub command_of_words : List (List ℕ) → Option Command
 command_of_words [] = None
 command_of_words (name ∷ fields) = command_of name fields
-
--- a command and those that follow it, or the number of the first bad line
-abbrev pub command_and : ℕ → Option Command → Result (List Command) ℕ → Result (List Command) ℕ
-command_and n None rest = Err n
-command_and n (Some c) (Ok cs) = Ok (c ∷ cs)
-command_and n (Some c) (Err m) = Err m
-
--- the commands that lines are, the first of them line n, or the number of the first bad line
-abbrev pub commands : ℕ → List (List ℕ) → Result (List Command) ℕ
-commands n [] = Ok []
-commands n (line ∷ rest) = command_and n (command_of_words (words line)) (commands (n + 1) rest)
-
--- ---- inputs
-
--- an image and the commands that follow it, or the number of the first bad line
-abbrev pub image_and : Option (List ℕ) → Result (List Command) ℕ
-    → Result (List ℕ × List Command) ℕ
-image_and None rest = Err 1
-image_and (Some image) (Ok cs) = Ok (image, cs)
-image_and (Some image) (Err n) = Err n
-
--- the same, of an input's lines: no line is a bad line 1
-abbrev pub parse_lines : List (List ℕ) → Result (List ℕ × List Command) ℕ
-parse_lines [] = Err 1
-parse_lines (first ∷ rest) = image_and (field first) (commands 2 rest)
-
--- the image and the commands of an input, or the number of its first bad line, from 1
-unfoldable pub parse_input : List ℕ → Result (List ℕ × List Command) ℕ
-parse_input input = parse_lines (lines input)
-
--- the image of the first line, where it is the only one, or the number of the first bad line
-abbrev pub only_image : Option (List ℕ) → List (List ℕ) → Result (List ℕ) ℕ
-only_image None rest = Err 1
-only_image (Some image) [] = Ok image
-only_image (Some image) (line ∷ rest) = Err 2
-
--- the same, of a look-up's lines: no line is a bad line 1, and each line after the first is bad
-abbrev pub look_lines : List (List ℕ) → Result (List ℕ) ℕ
-look_lines [] = Err 1
-look_lines (first ∷ rest) = only_image (field first) rest
-
--- the image of a look-up's input, or the number of its first bad line, from 1
-unfoldable pub look_input : List ℕ → Result (List ℕ) ℕ
-look_input input = look_lines (lines input)
-
--- The error names the bad line that parsing gives; after a failed allocation nothing is said.
-abbrev pub ReportsLine : {A : Type 0} → Result A ℕ → InputError → Type 0
-ReportsLine parsed (BadLine number) = parsed ≡ Err number
-ReportsLine parsed Memory = Unit {0}

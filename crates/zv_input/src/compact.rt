@@ -4,7 +4,7 @@ ghost use Rattle.std.specs.Str.{is_utf8};
 ghost use Rattle.std.specs.Option.{option_copied, option_map};
 ghost use Rattle.zv_input.specs.Digits.{content_of, is_of_kind};
 ghost use Rattle.zv_input.specs.Input.{words};
-ghost use Rattle.zv_input.specs.Parser.{first_of, words_after};
+ghost use Rattle.zv_input.specs.Words.{first_of, words_after};
 
 use crate::digits::{decode, decode_front, decode_to};
 use crate::lines::{after_word, cut_word};

@@ -2,7 +2,7 @@
 ghost use Rattle.std.specs.Prelude.{◌≡◌, IfOk, MatchOption, Some, None};
 ghost use Rattle.std.specs.Option.{option_and_then, option_copied, option_map};
 ghost use Rattle.zv_input.specs.Input.{field, key};
-ghost use Rattle.zv_input.specs.Parser.{after_mark, first_keys, first_of, words_after};
+ghost use Rattle.zv_input.specs.Words.{after_mark, first_keys, first_of, words_after};
 
 use crate::command::{KeyText, ValueBytes};
 use crate::digits::decode;
@@ -21,7 +21,7 @@ fn digits_of(text: Option<&[u8]>) -> Option<&[u8]>
 }
 
 /// The bytes of a field, or `None` where the word is no field.
-pub(crate) fn read_field(alloc: Global, word: &[u8]) -> Result<Option<Vec<u8>>, NoMemory>
+pub fn read_field(alloc: Global, word: &[u8]) -> Result<Option<Vec<u8>>, NoMemory>
     ensures { IfOk result (λ f. MatchOption f (field word.now ≡ None)
         (λ bytes. field word.now ≡ Some bytes.items)) }
 {

@@ -5,13 +5,13 @@ ghost use Rattle.std.specs.List.{slice_split};
 ghost use Rattle.std.specs.Option.{option_copied};
 ghost use Rattle.memchr.specs.Find.{is_byte};
 ghost use Rattle.zv_input.specs.Input.{lines, words};
-ghost use Rattle.zv_input.specs.Parser.{Lacks, words_after};
+ghost use Rattle.zv_input.specs.Words.{Lacks, words_after};
 
 use memchr::memchr;
 
 /// What stands before the first such byte, and what follows it, if there is one.
 #[inline(always)]
-pub(crate) fn split_at_byte(byte: u8, text: &[u8]) -> (&[u8], Option<&[u8]>)
+pub fn split_at_byte(byte: u8, text: &[u8]) -> (&[u8], Option<&[u8]>)
     ensures split { MatchOption result.1
         (slice_split (is_byte byte) text.now ≡ text.now ∷ [])
         (λ rest. slice_split (is_byte byte) text.now

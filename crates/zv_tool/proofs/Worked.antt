@@ -1,173 +1,27 @@
 -- Worked rows of the definitions, computed.
-use Rattle.zv_tool.proofs.Common.{◌≡◌, ◌∷◌, [], ◌++◌, ℕ, List, length, refl, codes, true, false, replicate, canon, Rows, Command, Get, Put}
-use Rattle.zv_tool.proofs.Common.{Del, Row, Status, Done, BadLine, BadImage, Memory, WriteFault, answers, last, reply_lines, replies, some, pairs, usage_line}
-use Rattle.zv_tool.proofs.Common.{missing, added, old, too_large, text, image_line, bad_line, cause_line, is_answer, filter, map, ends, is_edit, is_written}
-use Rattle.zv_tool.proofs.Common.{Usage, ReadFault, TooLong, is_silent, code_of, cause_word}
-use Rattle.hex.specs.Hex.{encode_with}
-use Rattle.std.specs.Fmt.{digits}
-use Rattle.zv_ule.specs.declared.error.TyName.TheVariants.{RawBytes4, VarZeroSlice}
-use Rattle.zv_ule.specs.declared.error.UleError.TheVariants.{InvalidLength, ParseError}
-use Rattle.zv_map2d.specs.declared.error.EditError.TheVariants.{Frame, Ule, Keys0Joiner, Keys1Values, JoinerOrder, JoinerEnd, KeyOrder}
-use Rattle.zv_map2d_laws.specs.Locales.{locales}
+use Rattle.std.proofs.Common.{◌≡◌, ◌∷◌, [], List, ℕ, refl, codes, Some, None, true, false}
+use Rattle.std.specs.Prelude.{map}
+use Rattle.std.specs.Str.{is_utf8, chars}
+use Rattle.hex.specs.Hex.{decode_pairs}
+use Rattle.zv_command.specs.Requests.{input_due}
+use Rattle.zv_command.specs.Runs.{of_input}
+use Rattle.zv_edit.specs.Requests.{edit_due, with_command}
+use Rattle.zv_tool.specs.Forms.{form_of, is_read, names_form, wanted}
+use Rattle.zv_tool.specs.declared.form.Form.TheVariants.{Edit, Look}
 
--- what stands first in each row gives what stands second
-abbrev Gives : {A B : Type 0} → (A → B) → List (A × B) → Type 0
-Gives f rows = map (λ row. f row.0) rows ≡ map (λ row. row.1) rows
+-- the forms; a word too many and too few; a key that is none; another name; no words
+forms : map form_of (
+    (codes "edit" ∷ []) ∷ (codes "look" ∷ codes "x61" ∷ codes "x" ∷ []) ∷ (codes "edit" ∷ codes "more" ∷ []) ∷ (codes "look" ∷ codes "x61" ∷ [])
+    ∷ (codes "look" ∷ codes "x61" ∷ codes "xff" ∷ []) ∷ (codes "make" ∷ []) ∷ [] ∷ [])
+    ≡ Some Edit ∷ Some (Look (record { key0 = codes "a"; key1 = [] })) ∷ None ∷ None ∷ None ∷ None ∷ None ∷ []
+unfolding decode_pairs is_utf8 chars lib.Utf8.encode
+forms = refl
 
--- LF
-abbrev lf : List ℕ
-lf = 10 ∷ []
+names : map names_form ((codes "edit" ∷ codes "more" ∷ []) ∷ (codes "look" ∷ []) ∷ (codes "make" ∷ []) ∷ [] ∷ []) ≡ true ∷ true ∷ false ∷ false ∷ []
+names = refl
 
--- keys of one letter
-abbrev a : List ℕ
-a = codes "a"
+reads : map is_read ((codes "edit" ∷ []) ∷ (codes "look" ∷ []) ∷ [] ∷ []) ≡ true ∷ false ∷ false ∷ []
+reads = refl
 
-abbrev b : List ℕ
-b = codes "b"
-
-abbrev c : List ℕ
-c = codes "c"
-
--- ---- output
-
-reply_texts : Gives text (
-    (some (1 ∷ 171 ∷ []), codes "some x01ab" ++ lf) ∷ (missing, codes "none" ++ lf) ∷ (added, codes "new" ++ lf) ∷ (old [], codes "old x" ++ lf)
-    ∷ (too_large, codes "toolarge" ++ lf) ∷ (pairs ((b, 2 ∷ []) ∷ ([], []) ∷ []), codes "row x62 x02 x x" ++ lf) ∷ [])
-unfolding encode_with
-reply_texts = refl
-
-other_texts : image_line (0 ∷ 255 ∷ []) ∷ bad_line 12 ∷ usage_line ∷ []
-    ≡ map (λ t. t ++ lf) (codes "image x00ff" ∷ codes "error line 12" ∷ codes "usage: zv COMMAND" ∷ [])
-unfolding digits encode_with
-other_texts = refl
-
-cause_texts : Gives cause_word (
-    (Frame, codes "frame") ∷ (Ule (InvalidLength RawBytes4 3), codes "length") ∷ (Ule (ParseError VarZeroSlice), codes "parse")
-    ∷ (Keys0Joiner, codes "keys0joiner") ∷ (Keys1Values, codes "keys1values") ∷ (JoinerOrder, codes "joinerorder") ∷ (JoinerEnd, codes "joinerend")
-    ∷ (KeyOrder, codes "keyorder") ∷ [])
-cause_texts = refl
-
-cause_text : cause_line Frame ≡ codes "error frame" ++ lf
-cause_text = refl
-
--- ---- words and statuses
-
-edits : Gives is_edit ((codes "edit" ∷ [], true) ∷ (codes "edit" ∷ codes "more" ∷ [], false) ∷ ([], false) ∷ [])
-edits = refl
-
--- every status, in the order of the program's checks
-abbrev statuses : List Status
-statuses = Done ∷ Usage ∷ ReadFault ∷ TooLong ∷ BadLine ∷ BadImage ∷ Memory ∷ WriteFault ∷ []
-
-codes_of_statuses : map code_of statuses ≡ 0 ∷ 1 ∷ 2 ∷ 3 ∷ 4 ∷ 5 ∷ 6 ∷ 7 ∷ []
-codes_of_statuses = refl
-
-statuses_that_say : map (λ says. filter says statuses) (is_answer ∷ is_written ∷ is_silent ∷ [])
-    ≡ (Done ∷ BadLine ∷ BadImage ∷ []) ∷ (Done ∷ Usage ∷ BadLine ∷ BadImage ∷ []) ∷ (ReadFault ∷ TooLong ∷ Memory ∷ []) ∷ []
-statuses_that_say = refl
-
--- ---- whole answers
-
--- the map of one pair
-abbrev ab : Rows
-ab = (a, (b, 1 ∷ []) ∷ []) ∷ []
-
--- two rows of one pair
-abbrev two_rows : Rows
-two_rows = (a, (codes "z", 1 ∷ []) ∷ []) ∷ (b, (a, 2 ∷ []) ∷ []) ∷ []
-
--- of no commands; a first pair; another value; a pair that is removed twice; a row; empty fields
-whole_answers : Gives (λ (edit : Rows × List Command). answers edit.0 edit.1) (
-    (([], []), codes "image x0000000000000000000000000000000000000000000000000000000000000000" ++ lf)
-    ∷ (
-      ([], Put a b (1 ∷ []) ∷ []),
-      codes "new" ++ lf ++ codes "image x030000000000000001006104000000000000000100000003000000000000000100620300000000000000010001" ++ lf,
-    )
-    ∷ (
-      (ab, Put a b (2 ∷ 2 ∷ []) ∷ []),
-      codes "old x01" ++ lf ++ codes "image x03000000000000000100610400000000000000010000000300000000000000010062040000000000000001000202" ++ lf,
-    )
-    ∷ (
-      (ab, Del a b ∷ Del a b ∷ []),
-      codes "old x01" ++ lf ++ codes "none" ++ lf ++ codes "image x0000000000000000000000000000000000000000000000000000000000000000" ++ lf,
-    )
-    ∷ (
-      (two_rows, Row b ∷ []),
-      codes "row x61 x02" ++ lf
-          ++ codes "image x0600000000000000020001006162080000000000000001000000020000000600000000000000020001007a610600000000000000020001000102" ++ lf,
-    )
-    ∷ (
-      ([], Put [] [] [] ∷ []),
-      codes "new" ++ lf
-          ++ codes "image x020000000000000001000400000000000000010000000200000000000000010002000000000000000100" ++ lf,
-    )
-    ∷ [])
-unfolding encode_with
-whole_answers = refl
-
--- ---- replies, each on the map that the earlier commands leave
-
-in_turn : reply_lines [] (Put a c (1 ∷ 2 ∷ []) ∷ Put a b [] ∷ Row a ∷ Get a b ∷ Del a c ∷ Row a ∷ Row b ∷ [])
-    ≡ codes "new" ++ lf ++ codes "new" ++ lf ++ codes "row x62 x x63 x0102" ++ lf ++ codes "some x" ++ lf
-    ++ codes "old x0102" ++ lf ++ codes "row x62 x" ++ lf ++ codes "none" ++ lf
-unfolding encode_with
-in_turn = refl
-
--- a pair whose row is there, and one whose row isn't
-no_such_pair : replies ab (Get a c ∷ Get b b ∷ Del a c ∷ Del b b ∷ []) ≡ missing ∷ missing ∷ missing ∷ missing ∷ []
-no_such_pair = refl
-
--- of 28 locales
-of_locales : List Command
-of_locales = Get (codes "sd") (codes "Khoj") ∷ Row (codes "ku") ∷ Del (codes "zh") (codes "Bopo") ∷ Put (codes "en") (codes "Latn") (codes "US") ∷ []
-
-locale_replies : replies locales of_locales
-    ≡ some (codes "IN") ∷ pairs ((codes "Arab", codes "IQ") ∷ (codes "Yezi", codes "GE") ∷ []) ∷ old (codes "TW") ∷ added ∷ []
-unfolding of_locales
-locale_replies = refl
-
--- how long their image is then, and where their rows end
-locales_left : length (canon (last locales of_locales)) ∷ ends (last locales of_locales)
-    ≡ 487 ∷ 2 ∷ 3 ∷ 4 ∷ 6 ∷ 7 ∷ 8 ∷ 9 ∷ 11 ∷ 13 ∷ 14 ∷ 15 ∷ 16 ∷ 17 ∷ 18 ∷ 21 ∷ 22 ∷ 23 ∷ 24 ∷ 25 ∷ 26 ∷ 28 ∷ []
-unfolding of_locales
-locales_left = refl
-
--- ---- values that do not fit
-
--- as many bytes as a value can have, of one kind
-abbrev longest : ℕ → List ℕ
-longest byte = replicate 65534 byte
-
--- a full list of values takes no other, and a value gives way to one of its length
-abbrev full_values : List Command
-full_values = Put a b (longest 0) ∷ Put a c (1 ∷ []) ∷ Put a b (longest 1) ∷ Put a b (2 ∷ []) ∷ []
-
-full_values_replies : replies [] full_values ≡ added ∷ too_large ∷ old (longest 0) ∷ old (longest 1) ∷ []
-full_values_replies = refl
-
-full_values_left : last [] full_values ≡ (a, (b, 2 ∷ []) ∷ []) ∷ []
-full_values_left = refl
-
--- a byte more than a value can have
-one_byte_more : replies [] (Put a b (0 ∷ longest 0) ∷ []) ≡ too_large ∷ []
-one_byte_more = refl
-
--- a value that does not fit leaves no row behind
-no_empty_row : replies [] (Put a b (longest 0) ∷ Put c (codes "d") (1 ∷ []) ∷ Row c ∷ []) ≡ added ∷ too_large ∷ missing ∷ []
-no_empty_row = refl
-
-no_empty_row_image : length (canon (last [] (Put a b (longest 0) ∷ Put c (codes "d") (1 ∷ []) ∷ []))) ≡ 65578
-no_empty_row_image = refl
-
--- a value longer than any that can be put is read, is not put back, and gives way
-oversized : List ℕ
-oversized = replicate 70000 7
-
-oversized_replies : replies ((a, (b, oversized) ∷ []) ∷ []) (Get a b ∷ Put a b oversized ∷ Put a b (1 ∷ 2 ∷ 3 ∷ []) ∷ [])
-    ≡ some oversized ∷ too_large ∷ old oversized ∷ []
-unfolding oversized
-oversized_replies = refl
-
-oversized_gone : length (canon (last ((a, (b, oversized) ∷ []) ∷ []) (Put a b (1 ∷ 2 ∷ 3 ∷ []) ∷ []))) ≡ 47
-unfolding oversized
-oversized_gone = refl
+edit_wants : wanted (codes "edit" ∷ []) ≡ of_input (input_due with_command edit_due [])
+edit_wants = refl

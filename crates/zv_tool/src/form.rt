@@ -1,11 +1,12 @@
-// The forms of a command.
-ghost use Rattle.std.specs.Prelude.{◌≡◌, IfOk, IsTrue, MatchOption, None, OnErr, Some};
+// The forms of a command line.
+ghost use Rattle.std.specs.Prelude.{◌≡◌, IfOk, IsTrue, MatchOption, None, OnErr, Some, codes};
 ghost use Rattle.zv_input.specs.Input.{three_words};
-ghost use Rattle.zv_tool.specs.Program.{form_of, is_edit, look_keys, look_of, names_form};
+ghost use Rattle.zv_tool.specs.Forms.{form_of, is_word, look_keys, look_of, names_form};
 
 use crate::words::Words;
 use std::alloc::Global;
-use zv_input::{KeyText, read_key};
+use zv_edit::Look;
+use zv_input::read_key;
 use zv_ule::NoMemory;
 
 /// What the words of the command line ask for.
@@ -14,29 +15,14 @@ pub(crate) enum Form {
     /// Commands are run on an image.
     Edit,
     /// A pair of keys is looked up in an image.
-    Look { key0: KeyText, key1: KeyText },
+    Look(Look),
 }
 
-impl Form {
-    ghost use Rattle.std.specs.Prelude.{◌≡◌};
-    ghost use Rattle.zv_tool.specs.Program.{first_bad};
-
-    /// The first bad line of an input, by its first bad line for an edit: a look-up takes one line.
-    pub(crate) fn first_bad(&self, number: u64) -> u64
-        ensures { result ≡ first_bad self.now number }
-    {
-        match self {
-            Form::Edit => number,
-            Form::Look { .. } => number.min(2),
-        }
-    }
-}
-
-// Whether the words are `edit`.
-fn is_edit(words: &Words) -> bool
-    ensures { result ≡ is_edit words.now }
+// Whether the words are this one.
+fn is_word(words: &Words, word: &str) -> bool
+    ensures { result ≡ is_word word.now words.now }
 {
-    words.len() == 1 && words.get(0) == Some("edit")
+    words.len() == 1 && words.get(0) == Some(word)
 }
 
 // The words, where there are three.
@@ -59,7 +45,7 @@ fn read_keys(alloc: Global, a: &str, b: &str) -> Result<Option<Form>, NoMemory>
         return Ok(None);
     };
     match read_key(alloc, b.as_bytes())? {
-        Some(key1) => Ok(Some(Form::Look { key0, key1 })),
+        Some(key1) => Ok(Some(Form::Look(Look { key0, key1 }))),
         None => Ok(None),
     }
 }
@@ -83,7 +69,7 @@ pub(crate) fn read_form(alloc: Global, words: &Words) -> Result<Option<Form>, No
     ensures form { IfOk result (λ form. form ≡ form_of words.now) }
     ensures named { OnErr result (IsTrue (names_form words.now)) }
 {
-    if is_edit(words) {
+    if is_word(words, "edit") {
         return Ok(Some(Form::Edit));
     }
     read_look(alloc, words)

@@ -1,0 +1,8 @@
+mod Worked
+pub mod Common
+pub mod Edits
+pub mod Left
+pub mod Looks
+pub mod PutRoom
+pub mod Served
+pub mod Texts

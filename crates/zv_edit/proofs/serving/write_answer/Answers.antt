@@ -1,0 +1,19 @@
+use Rattle.zv_edit.proofs.Common.{◌≡◌, ◌++◌, ◌∙◌, List, ℕ, length, take_all, sym, ap, rules, arith, frame, canon, bytes_of, last, reply_lines, image_line}
+use Rattle.zv_edit.proofs.Served.{at_err}
+use Rattle.zv_command.proofs.Sending.{sends_as, sends_then}
+use Rattle.zv_edit.proofs.serving.write_answer.Goals as goal
+
+pub returns-clause-text : goal.returns-clause-text
+returns-clause-text g c =
+    let m = c.args.map.now.rows in
+    let cs = c.args.commands.now in
+    let ran : c.run_commands.new.map.rows ≡ last m cs = search rules in
+    let image : canon (last m cs) ≡ frame (bytes_of c.canon_parts.result) = ap canon (sym ran) ∙ ap frame (sym c.canon_parts.ensures) in
+    sends_as (ap (λ (i : List ℕ). reply_lines m cs ++ image_line i) image)
+    (sends_then c.run_commands.ensures.text (search rules) c.write_image.ensures.text)
+
+pub returns-clause-failed : goal.returns-clause-failed
+returns-clause-failed g c =
+    let cs = c.args.commands.now in
+    let ran : c.run_commands.new.map.rows ≡ last c.args.map.now.rows cs = search rules in
+    at_err c.write_image.result (length cs, ran ∙ ap (last c.args.map.now.rows) (sym (take_all (length cs) cs (omega arith))))

@@ -1,0 +1,124 @@
+// Commands that run on the map of an image.
+ghost use Rattle.std.specs.Prelude.{◌≡◌, ◌≤◌, ◌+◌, [], ◌∷◌, ◌++◌};
+ghost use Rattle.std.specs.Prelude.{IsTrue, IfErr, OnOk, IsErrOf, None, Some};
+ghost use Rattle.zv_map2d.specs.Causes.{is_cause};
+ghost use Rattle.zv_map2d.specs.Image.{fault};
+ghost use Rattle.zv_edit.specs.Answers.{IsAnswer};
+ghost use Rattle.zv_devices.specs.Devices.{Rose, Written, CutShort};
+ghost use Rattle.zv_input.specs.Commands.{command_size, total_size};
+
+use crate::serving::serve;
+use std::alloc::Global;
+use std::marker::Model;
+use zv_command::{Request, Status};
+use zv_devices::{Failed, Sink};
+use zv_image::{refuse, reserve};
+use zv_input::{Command, Commands, CommandsError, MAX_COMMANDS, read_command};
+use zv_map2d::{EditError, parse_image};
+use zv_ule::NoMemory;
+
+/// Runs commands on the map of an image, in order: a reply for each, and the line of the canonical
+/// image of the map that they leave.
+///
+/// The image is copied once, with room for all puts, so memory is refused before the first byte and
+/// never after it; [`serve`] does the rest. A refused image takes no memory and writes nothing.
+pub fn edit2d<K: Sink>(
+    alloc: Global,
+    image: &[u8],
+    commands: &Commands,
+    sink: &mut K,
+) -> Result<(), EditError>
+    ensures ok { OnOk result
+        (Written (IsAnswer image.now commands.now) (K.taken sink.old) (K.taken sink.new)) }
+
+    // A cause comes exactly where the image has one, and it is that one.
+    ensures valid { OnOk result (fault image.now ≡ None) }
+    ensures cause { IfErr result (λ e. IsTrue (is_cause e) → fault image.now ≡ Some e) }
+    ensures memory { IsErrOf result EditError.Memory → fault image.now ≡ None }
+    ensures write { IsErrOf result EditError.Write
+        → (fault image.now ≡ None) × Rose (K.faults sink.old) (K.faults sink.new) }
+    ensures later { K.faults sink.old ≤ K.faults sink.new }
+
+    // Whatever the error, nothing but a prefix of the answer was written, and nothing where it is
+    // not Write.
+    ensures untouched { IfErr result (λ e. (e ≡ EditError.Write → ⊥) → sink.new ≡ sink.old) }
+    ensures in_part { IsErrOf result EditError.Write
+        → CutShort (IsAnswer image.now commands.now) (K.taken sink.old) (K.taken sink.new) }
+{
+    let mut map = parse_image(image)?;
+    if reserve(alloc, &mut map, commands).is_err() {
+        return Err(EditError::Memory);
+    }
+    match serve(&mut map, commands, sink) {
+        Ok(()) => Ok(()),
+        Err(Failed) => Err(EditError::Write),
+    }
+}
+
+/// Commands, each of which is a line.
+#[derive(Drop)]
+pub struct Edit {
+    commands: Commands,
+}
+
+impl Model for Edit {
+    ghost use Rattle.std.specs.Prelude.{List};
+    ghost use Rattle.zv_input.specs.declared.command.Command.{Command};
+
+    ghost Value = { List Command };
+
+    ghost view = { λ e. e.commands };
+}
+
+impl Edit {
+    ghost use Rattle.std.specs.Prelude.{◌≡◌, []};
+
+    /// No commands. It takes no memory yet.
+    pub fn new(alloc: Global) -> Edit
+        ensures { result ≡ [] }
+    {
+        Edit {
+            commands: Commands::new(alloc),
+        }
+    }
+}
+
+// Adds a command, for which there is room.
+fn keep(commands: &mut Commands, command: Command) -> Result<(), NoMemory>
+    requires { total_size commands.old + command_size command ≤ MAX_COMMANDS }
+    ensures { OnOk result (commands.new ≡ commands.old ++ command ∷ []) }
+{
+    match commands.push(command) {
+        Ok(()) => Ok(()),
+        Err(CommandsError::Memory) => Err(NoMemory),
+        Err(CommandsError::Full) => unreachable!(),
+    }
+}
+
+impl Request for Edit {
+    ghost use Rattle.zv_input.specs.Commands.{total_size};
+    ghost use Rattle.zv_edit.specs.Requests.{edit_due, with_command};
+
+    ghost with_line = { with_command };
+
+    ghost size = { total_size };
+
+    ghost due = { edit_due };
+
+    fn add_line(&mut self, alloc: Global, line: &[u8]) -> Result<bool, NoMemory> {
+        let Some(command) = read_command(alloc, line)? else {
+            return Ok(false);
+        };
+        keep(&mut self.commands, command)?;
+        Ok(true)
+    }
+
+    fn answer<K: Sink>(&self, alloc: Global, image: &[u8], sink: &mut K) -> Status {
+        match edit2d(alloc, image, &self.commands, sink) {
+            Ok(()) => Status::Done,
+            Err(EditError::Memory) => Status::Memory,
+            Err(EditError::Write) => Status::WriteFault,
+            Err(cause) => refuse(sink, cause),
+        }
+    }
+}

@@ -1,0 +1,3 @@
+mod Worked
+pub mod Faults
+pub mod Parts

@@ -1,0 +1,47 @@
+// The line of an image.
+ghost use Rattle.std.specs.Prelude.{◌≡◌, [], OnOk};
+ghost use Rattle.hex.specs.Hex.{encode_lower};
+ghost use Rattle.zv_map2d.specs.Frame.{frame};
+ghost use Rattle.zv_map2d.specs.Views.{bytes_of};
+ghost use Rattle.zv_var.specs.Frame.{framed};
+ghost use Rattle.zv_command.specs.Sending.{Sends};
+ghost use Rattle.zv_image.specs.Text.{image_line};
+
+use zv_command::Output;
+use zv_devices::{Failed, Sink};
+use zv_map2d::Parts;
+use zv_var::frame::part_len;
+
+// Writes the hex digits of a part after its length.
+#[tactic(auto, using(zv_command::proofs::Sending::sends_more, crate::proofs::Parts::in_two))]
+fn write_part<K: Sink>(out: &mut Output<'_, K>, part: &[u8]) -> Result<(), Failed>
+    ensures { Sends K.taken K.faults out.old out.new result (encode_lower (framed part.now)) }
+{
+    out.write_hex(&part_len(part))?;
+    out.write_hex(part)
+}
+
+// Writes the hex digits of the image of four parts.
+#[tactic(auto, using(zv_command::proofs::Sending::sends_more, crate::proofs::Parts::in_four))]
+fn write_parts<K: Sink>(out: &mut Output<'_, K>, parts: Parts<'_>) -> Result<(), Failed>
+    ensures { Sends K.taken K.faults out.old out.new result
+        (encode_lower (frame (bytes_of parts.entry))) }
+{
+    write_part(out, parts.keys0)?;
+    write_part(out, parts.joiner)?;
+    write_part(out, parts.keys1)?;
+    write_part(out, parts.values)
+}
+
+/// Writes the line of the image of four parts, and sends it.
+#[tactic(auto, using(zv_command::proofs::Sending::sends_more))]
+pub fn write_image<K: Sink>(out: &mut Output<'_, K>, parts: Parts<'_>) -> Result<(), Failed>
+    ensures text { Sends K.taken K.faults out.old out.new result
+        (image_line (frame (bytes_of parts.entry))) }
+    ensures sent { OnOk result (out.new.piece ≡ []) }
+{
+    out.write(b"image x")?;
+    write_parts(out, parts)?;
+    out.write(b"\n")?;
+    out.send()
+}

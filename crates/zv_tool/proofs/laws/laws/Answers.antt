@@ -1,7 +1,0 @@
-use Rattle.zv_tool.proofs.Edits.{same_edits, written_back}
-use Rattle.zv_input.proofs.Texts.{keys_are_texts}
-use Rattle.zv_tool.proofs.Left.{left_stands}
-use Rattle.zv_tool.proofs.laws.laws.Goals as goal
-
-pub returns : goal.returns
-returns c = record { texts = keys_are_texts; left = left_stands; same = same_edits; again = written_back }

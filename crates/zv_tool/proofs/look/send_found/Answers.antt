@@ -1,6 +1,0 @@
-use Rattle.zv_tool.proofs.Common.{rules, append-nil, sym}
-use Rattle.zv_tool.proofs.Sending.{sends_as, sends_then}
-use Rattle.zv_tool.proofs.look.send_found.Goals as goal
-
-pub returns-clause-text : goal.returns-clause-text
-returns-clause-text g c = sends_as (sym (append-nil _)) (sends_then c.write_found.ensures (search rules) c.send.ensures.text)

@@ -1,8 +1,0 @@
-use Rattle.zv_tool.proofs.Common.{◌≡◌, ◌∙◌, rules, fits_alike}
-use Rattle.zv_tool.proofs.places.fits.Goals as goal
-
-pub returns : goal.returns
-returns c =
-    let v = c.of_bytes-value.result.bytes.now in
-    let same : v ≡ c.args.value.now = search rules in
-    rw same at (c.takes_at.ensures ∙ fits_alike c.args.map.now.rows c.args.key0.now c.args.key1.now v c.in_order.ensures.ascending)

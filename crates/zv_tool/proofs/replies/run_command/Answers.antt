@@ -1,6 +1,0 @@
-use Rattle.zv_tool.proofs.Common.{ap, reply, text}
-use Rattle.zv_tool.proofs.Sending.{sends_as}
-use Rattle.zv_tool.proofs.replies.run_command.Goals as goal
-
-pub returns-in-Get-clause-text : goal.returns-in-Get-clause-text
-returns-in-Get-clause-text g c = sends_as (ap (λ x. text (reply c.args.map.now.rows x)) c.in-Get.is) c.get.ensures

@@ -1,0 +1,62 @@
+-- The forms of a command line, and what each wants.
+use Rattle.std.specs.Prelude.{ℕ, Bool, false, List, [], ◌∷◌, bytes_eq, codes, if◌then◌else◌, ◌||◌}
+use Rattle.std.specs.declared.option.Option.{Option}
+use Rattle.std.specs.declared.option.Option.TheVariants.{Some, None}
+use Rattle.zv_input.specs.Digits.{◌>>=◌}
+use Rattle.zv_input.specs.Input.{key, three_words}
+use Rattle.zv_command.specs.Due.{text_due}
+use Rattle.zv_command.specs.Requests.{input_due}
+use Rattle.zv_command.specs.Runs.{Wanted, at_once, of_input, reads_input}
+use Rattle.zv_command.specs.Text.{line}
+use Rattle.zv_command.specs.declared.status.Status.TheVariants.{Usage}
+use Rattle.zv_edit.specs.Requests.{edit_due, look_due, with_command, with_no_line}
+use Rattle.zv_tool.specs.declared.form.Form.{Form}
+use Rattle.zv_tool.specs.declared.form.Form.TheVariants.{Edit, Look}
+
+-- ---- the words of a form
+
+-- whether the words are this one
+abbrev pub is_word : List ℕ → List (List ℕ) → Bool
+is_word name (word ∷ []) = bytes_eq word name
+is_word name words = false
+
+-- the look-up of the keys that two words are
+abbrev pub look_keys : List ℕ → List ℕ → Option Form
+look_keys a b = do
+  key0 ← key a
+  key1 ← key b
+  Some (Look (record { key0 = key0; key1 = key1 }))
+
+-- the form of words that are `look` and two keys
+abbrev pub look_of : List (List ℕ) → Option Form
+look_of words = do
+  triple ← three_words words
+  if bytes_eq triple.0 (codes "look") then look_keys triple.1 triple.2 else None
+
+-- the form that the words are, `edit` or `look` and two keys
+abbrev pub form_of : List (List ℕ) → Option Form
+form_of words = if is_word (codes "edit") words then Some Edit else look_of words
+
+-- whether the first word names a form
+abbrev pub names_form : List (List ℕ) → Bool
+names_form [] = false
+names_form (word ∷ rest) = bytes_eq word (codes "edit") || bytes_eq word (codes "look")
+
+-- ---- what is wanted
+
+-- by a form
+abbrev pub wanted_of : Form → Wanted
+wanted_of Edit = of_input (input_due with_command edit_due [])
+wanted_of (Look look) = of_input (input_due with_no_line look_due look)
+
+-- by words: the usage line where they are no form
+abbrev pub wanted_or_usage : Option Form → Wanted
+wanted_or_usage None = at_once (text_due (line (codes "usage: zv COMMAND")) Usage)
+wanted_or_usage (Some form) = wanted_of form
+
+abbrev pub wanted : List (List ℕ) → Wanted
+wanted words = wanted_or_usage (form_of words)
+
+-- whether words want the input to be read
+abbrev pub is_read : List (List ℕ) → Bool
+is_read words = reads_input (wanted words)
