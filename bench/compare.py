@@ -3,7 +3,7 @@
 
     bench/compare.py [SECONDS] [SEED]
 
-Build the program first (`./zv edit < examples/locales.txt`). Half of the images are those of a map, and the
+Build the program first (`./zv --prove`). Half of the images are those of a map, and the
 others are changed at random; half of the inputs have values and keys at the edges of the size rule. An input
 that is answered otherwise is written to `differs.txt` in the working folder.
 """

@@ -3,7 +3,7 @@
 
     bench/program.py [RUNS]
 
-Build it first (`./zv edit < examples/locales.txt`), and have GNU time (Debian's package `time`). Inputs are
+Build it first (`./zv --prove`), and have GNU time (Debian's package `time`). Inputs are
 made in a temporary folder. Each line says the least processor time of RUNS runs (5 by default) and the
 largest peak memory.
 """
@@ -111,7 +111,7 @@ def main():
     if not os.path.exists(TIME):
         sys.exit(f"{TIME} is not there: install Debian's package `time`")
     if not os.path.exists(PROGRAM):
-        sys.exit("build the program first: ./zv edit < examples/locales.txt")
+        sys.exit("build the program first: ./zv --prove")
     small = {b"a": {b"b": b"\x01"}}
     scripts = [b"Arab", b"Cyrl", b"Deva", b"Hans", b"Hant", b"Khoj", b"Latn"]
     locales = {b"%c%c" % (97 + i // 26, 97 + i % 26): {s: b"US" for s in scripts} for i in range(400)}

@@ -1,10 +1,12 @@
 #!/usr/bin/env python3
-"""Checks that the code in README.md and docs/*.md is the text of the files that it names.
+"""Checks README.md and docs/*.md against the files that they quote and the crates whose calls and clauses they name.
 
 A block that follows the line `<!-- from PATH -->` is a quote of that file. Each of its paragraphs (the
 lines between blank lines, or between lines `...`) must stand in the file, line for line and in order.
-A block of Rattle (```rust, ```antt) without such a line is an error. The status is 1 where a quote
-and its file differ.
+A block of Rattle (```rust, ```antt) without such a line is an error.
+
+Each call and clause in the tables of docs/CONTRACTS.md must stand in the crate of its section, and each in the
+README's table of clauses in the file that the row links to. The status is 1 where something differs.
 """
 import pathlib
 import re
@@ -12,6 +14,8 @@ import sys
 
 TOP = pathlib.Path(__file__).resolve().parent.parent
 BLOCK = re.compile(r"(?:^<!-- from (?P<path>\S+) -->\n)?^```(?P<kind>\w*)\n(?P<text>.*?)^```$", re.M | re.S)
+CODE = re.compile(r"`([^`]+)`")
+LINK = re.compile(r"\[([^]]*)\]\(([^)]*)\)")
 
 
 def paragraphs(text):
@@ -20,7 +24,7 @@ def paragraphs(text):
     return [piece.strip("\n") for piece in pieces if piece.strip()]
 
 
-def faults(page):
+def wrong_quotes(page):
     text = page.read_text()
     for block in BLOCK.finditer(text):
         line = text.count("\n", 0, block.start()) + 1
@@ -42,8 +46,59 @@ def faults(page):
             rest = rest[place + len(paragraph):]
 
 
+def contracts(text, call):
+    """The clauses of the functions of a name, and what traits say; None where the name isn't there."""
+    *owners, name = ("default" if call == "Default" else call).split("::")
+    functions = re.findall(rf"\bfn {name}\b.*?(?=\bfn \w|\Z)", text, re.S)
+    if not functions and (name[0].isupper() or re.search(rf"\bmod {name};", text)):
+        owners, functions = [*owners, name], [text]
+    if not functions or not all(re.search(rf"\b{owner}\b", text) for owner in owners):
+        return None
+    clauses = re.findall(r"\b(?:requires|ensures) (\w+) \{", "".join(functions))
+    return {*clauses, *re.findall(r"\bghost (\w+) ?[:=]", text)}
+
+
+def wrong_names(where, text, calls, clauses):
+    found = set()
+    for call in calls:
+        named = contracts(text, call)
+        if named is None:
+            yield f"{where}: there is no {call}"
+        found |= named or set()
+    yield from (f"{where}: no clause {clause} of {', '.join(calls)}" for clause in clauses if clause not in found)
+
+
+def rows(page):
+    """The rows of a page's tables, with the page's section and where each stands."""
+    section = ""
+    for number, line in enumerate((TOP / page).read_text().splitlines(), 1):
+        section = line if line.startswith("## ") else section
+        if line.startswith("| "):
+            yield section, [cell.strip() for cell in line.strip("|").split("|")], f"{page}:{number}"
+
+
+def wrong_contracts():
+    calls = []
+    for section, (first, second, _), where in rows("docs/CONTRACTS.md"):
+        sources = sorted(TOP.glob(f"crates/{section[3:].partition(':')[0]}/src/**/*.rt"))
+        calls = CODE.findall(first) or calls
+        if first != "call":
+            text = "\n".join(source.read_text() for source in sources)
+            yield from wrong_names(where, text, calls, CODE.findall(second))
+
+
+def wrong_guarantees():
+    for section, cells, where in rows("README.md"):
+        end = 0
+        for link in LINK.finditer(cells[1]) if section == "## What is guaranteed" else ():
+            clauses, end = CODE.findall(cells[1][end:link.start()]), link.end()
+            yield from wrong_names(where, (TOP / link[2]).read_text(), CODE.findall(link[1]), clauses)
+
+
 def main():
-    found = [fault for page in [TOP / "README.md", *sorted(TOP.glob("docs/*.md"))] for fault in faults(page)]
+    pages = [TOP / "README.md", *sorted(TOP.glob("docs/*.md"))]
+    found = [fault for page in pages for fault in wrong_quotes(page)]
+    found += [*wrong_contracts(), *wrong_guarantees()]
     print(*found, sep="\n", end="\n" if found else "")
     return 1 if found else 0
 

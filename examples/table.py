@@ -3,13 +3,17 @@
 
     examples/table.py put TABLE.tsv       an input that puts the table's lines into the empty map
     examples/table.py get KEY0 KEY1 ..    adds a look-up of each pair of keys to the input that it reads
-    examples/table.py show                the image in the output that it reads, as such a table
+    examples/table.py show [INPUT]        the image in the output that it reads, as such a table
 
 A line of a table is a first key, a second key and a value, with a tab between them. Keys and values
 are texts in UTF-8 here; `zv` takes any bytes as a value. docs/FORMATS.md describes the image.
+Given the input that the output answers, `show` begins with each pair that was looked up, found or not,
+and each that was too large to be put.
 
-    examples/table.py put examples/regions.tsv | ./zv edit | examples/table.py show
+    examples/table.py put examples/regions.tsv | examples/table.py get sd Khoj > input
+    ./zv edit < input | examples/table.py show input
 """
+import os
 import struct
 import sys
 
@@ -20,22 +24,37 @@ def field(data):
     return "x" + data.hex()
 
 
+def text(data):
+    """The text of some bytes, or of a field."""
+    data = bytes.fromhex(data[1:]) if isinstance(data, str) else data
+    try:
+        return data.decode()
+    except UnicodeDecodeError:
+        raise ValueError(f"{field(data)} is no text in UTF-8") from None
+
+
+def lines_of(path):
+    """The lines of a file, or of standard input."""
+    with open(path, "rb") if path else sys.stdin.buffer as file:
+        *lines, last = text(file.read()).split("\n")
+        return [*lines, last] if last else lines
+
+
 def put(path):
-    print(field(EMPTY_IMAGE))
-    with open(path, encoding="utf-8", newline="") as table:
-        for number, line in enumerate(table, 1):
-            words = line.rstrip("\n").split("\t")
-            if len(words) != 3:
-                sys.exit(f"{path}:{number}: three words with tabs between them are wanted")
-            print("put", *(field(word.encode()) for word in words))
+    yield field(EMPTY_IMAGE)
+    for number, line in enumerate(lines_of(path), 1):
+        words = line.split("\t")
+        if len(words) != 3 or line.endswith("\r"):
+            raise ValueError(f"{path}:{number}: wanted are three words with tabs between them, and no CR behind them")
+        yield " ".join(("put", *(field(word.encode()) for word in words)))
 
 
 def get(keys):
     if len(keys) % 2:
-        sys.exit("keys are wanted in pairs")
-    sys.stdout.writelines(sys.stdin)
+        raise ValueError("keys are wanted in pairs")
+    yield from lines_of(None)
     for key0, key1 in zip(keys[::2], keys[1::2]):
-        print("get", field(key0.encode()), field(key1.encode()))
+        yield f"get {field(key0.encode())} {field(key1.encode())}"
 
 
 def parts(image):
@@ -54,35 +73,52 @@ def elements(part):
     (count,) = struct.unpack_from("<H", part)
     data = part[2 * count:]
     starts = (0, *struct.unpack_from(f"<{count - 1}H", part, 2), len(data))
-    return [data[start:end].decode() for start, end in zip(starts, starts[1:])]
+    return [text(data[start:end]) for start, end in zip(starts, starts[1:])]
 
 
-def show():
-    *replies, last = sys.stdin.read().splitlines()
+def answered(commands, replies):
+    """What was looked up, and what was too large."""
+    if len(commands) != len(replies):
+        raise ValueError(f"{len(commands)} commands and {len(replies)} replies")
+    for command, reply in zip(commands, replies):
+        (name, *fields), (kind, *values) = command.split(" "), reply.split(" ")
+        if name == "get" or kind == "toolarge":
+            yield "\t".join(("# " + kind, *map(text, fields[:2] + values)))
+
+
+def show(path):
+    *replies, last = lines_of(None) or ["there is no output of `zv edit` to show"]
     if not last.startswith("image x"):
-        sys.exit(last)
-    for reply in replies:
-        kind, *fields = reply.split(" ")
-        if kind in ("some", "row", "toolarge"):
-            print("#", kind, *(bytes.fromhex(word[1:]).decode() for word in fields))
+        raise ValueError(last)
+    if path:
+        yield from answered(lines_of(path)[1:], replies)
     keys0, joiner, keys1, values = parts(bytes.fromhex(last[len("image x"):]))
     ends = struct.unpack(f"<{len(joiner) // 4}I", joiner)
     pairs = list(zip(elements(keys1), elements(values)))
     for key0, start, end in zip(elements(keys0), (0, *ends), ends):
         for key1, value in pairs[start:end]:
-            print(key0, key1, value, sep="\t")
+            yield "\t".join((key0, key1, value))
 
 
 def main(words):
     match words:
         case ["put", path]:
-            put(path)
+            lines = put(path)
         case ["get", *keys] if keys:
-            get(keys)
+            lines = get(keys)
         case ["show"]:
-            show()
+            lines = show(None)
+        case ["show", path]:
+            lines = show(path)
         case _:
             sys.exit(__doc__)
+    # Nothing is written before everything is read.
+    try:
+        print(*list(lines), sep="\n", flush=True)
+    except (OSError, ValueError, struct.error) as error:
+        # What is left to be written would be tried again at the end.
+        os.dup2(os.open(os.devnull, os.O_WRONLY), 1)
+        sys.exit(f"examples/table.py: {error}")
 
 
 if __name__ == "__main__":
