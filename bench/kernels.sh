@@ -9,39 +9,65 @@
 # of 10,000 texts.
 #
 # The timing programs, bench/timing.txt, changes.txt, tables.txt and hashes.txt, are Rattle crates that are no part of the
-# gate: they are proved and built in a copy of the repository.
+# gate. They are proved and built in bench/out, a copy of the sources with the libraries that the tree has kept (`./zv --prove`
+# and `rt lib` keep them), and stay there: what didn't change is not built again. Each is run as soon as it is built.
 set -euo pipefail
 top=$(cd "$(dirname "$0")/.." && pwd)
-copy=$(mktemp -d)
-trap 'rm -rf "$copy"' EXIT
+copy=$top/bench/out
 
-git -C "$top" ls-files -z -- crates crates.txt HANDLES | (cd "$top" && xargs -0 cp --parents -t "$copy")
-cd "$copy"
-git init -q .
-build() {
-    mkdir -p "crates/zv_$1/src" "crates/zv_$1/specs"
-    cp "$top/bench/$1.txt" "crates/zv_$1/src/main.rt"
-    : > "crates/zv_$1/specs/Lib.antt"
-    echo "zv_$1: anyhow $2" >> crates.txt
-    (cd "crates/zv_$1" && rt run > log 2>&1) || { cat "crates/zv_$1/log"; exit 1; }
+say() {
+    echo "kernels.sh: $* ($((SECONDS / 60)) min $((SECONDS % 60)) s)" >&2
 }
+
+# The sources anew, and each library that the tree has built from them.
+copy_tree() {
+    mkdir -p "$copy"
+    rm -rf "$copy"/crates/*/{src,specs,proofs}
+    (cd "$top" && git ls-files -z -- crates crates.txt HANDLES | xargs -0 cp --parents -t "$copy")
+    for rlib in "$top"/crates/*/out/rlib; do
+        kept=$copy/crates/$(basename "$(dirname "$(dirname "$rlib")")")/out/rlib
+        if [ -f "$rlib/stamp" ] && ! cmp -s "$rlib/stamp" "$kept/stamp"; then
+            rm -rf "$kept"
+            mkdir -p "$(dirname "$kept")"
+            cp -rl "$rlib" "$kept"
+        fi
+    done
+    [ -d "$copy/.git" ] || git init -q "$copy"
+}
+
+# Proves and builds a timing program over the libraries that it names, and runs it.
+build() {
+    local folder=$copy/crates/zv_$1
+    say "zv_$1: proves and builds what isn't kept, and then runs"
+    mkdir -p "$folder/src" "$folder/specs"
+    cp "$top/bench/$1.txt" "$folder/src/main.rt"
+    : > "$folder/specs/Lib.antt"
+    echo "zv_$1: anyhow $2" >> "$copy/crates.txt"
+    (cd "$folder" && rt run 2> "$copy/log" < /dev/null) || { cat "$copy/log" >&2; exit 1; }
+}
+
+beside() {
+    if [ -n "$1" ]; then echo "-- zerovec"; "$1" parse_text text16 map hash_; fi
+    if [ -x "$copy/reference" ]; then echo "-- plain Rust over std"; "$copy/reference"; fi
+    if [ -x "$copy/digest" ]; then echo "-- xxHash's own library"; "$copy/digest"; fi
+}
+
+say "copies the sources into $copy, with the libraries that are kept"
+copy_tree
+if command -v rustc > /dev/null; then
+    rustc -O -C target-cpu=x86-64-v2 "$top/bench/reference.rs" -o "$copy/reference"
+fi
+if command -v cc > /dev/null && cc -O2 "$top/bench/digest.c" -lxxhash -o "$copy/digest" 2> /dev/null; then :; fi
+
+echo "-- this repository"
 build timing 'zv_var zv_ule zv_fixed zv_xxhash'
 build changes 'zv_map2d zv_owned zv_ule'
 build tables 'zv_map2d zv_map1 zv_ule'
 build hashes 'zv_hashmap zv_hash zv_ule'
-
-if command -v rustc > /dev/null; then
-    rustc -O -C target-cpu=x86-64-v2 "$top/bench/reference.rs" -o reference
-fi
-if command -v cc > /dev/null && cc -O2 "$top/bench/digest.c" -lxxhash -o digest 2> /dev/null; then :; fi
-
-for _ in 1 2; do
-    echo "-- this repository"
-    crates/zv_timing/out/zv_timing
-    crates/zv_changes/out/zv_changes
-    crates/zv_tables/out/zv_tables
-    crates/zv_hashes/out/zv_hashes
-    if [ $# -gt 0 ]; then echo "-- zerovec"; "$1" parse_text text16 map hash_; fi
-    if [ -x reference ]; then echo "-- plain Rust over std"; ./reference; fi
-    if [ -x digest ]; then echo "-- xxHash's own library"; ./digest; fi
+beside "${1-}"
+say "all once more"
+echo "-- this repository"
+for name in timing changes tables hashes; do
+    "$copy/crates/zv_$name/out/zv_$name"
 done
+beside "${1-}"
