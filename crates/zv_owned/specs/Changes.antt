@@ -6,8 +6,8 @@ use Rattle.zv_owned.specs.Size.{takes_insert, takes_replace}
 use Rattle.zv_owned.specs.Splices.{most_steps}
 use Rattle.zv_owned.specs.declared.error.VecError.{VecError}
 use Rattle.zv_owned.specs.declared.error.VecError.TheVariants.{TooLarge, Memory}
-use Rattle.zv_owned.specs.declared.owned.Change.{Change}
-use Rattle.zv_owned.specs.declared.owned.Change.TheVariants.{Insert, Replace, Remove}
+use Rattle.zv_owned.specs.declared.change.Change.{Change}
+use Rattle.zv_owned.specs.declared.change.Change.TheVariants.{Insert, Replace, Remove}
 
 -- it is said where an allocation fails
 abbrev pub OnMemory : {A : Type 0} → Result A VecError → Type 0 → Type 0

@@ -12,8 +12,9 @@ ghost use Rattle.zv_owned.specs.Laws.{AnyOrder, InsertKeeps, RemoveKeeps, Replac
 ghost use Rattle.zv_owned.specs.Laws.{ShorterIsTaken};
 ghost use Rattle.zv_owned.specs.Owned.{TooLargeUnless};
 
+use crate::change::Change;
 use crate::error::VecError;
-use crate::owned::{Change, VarZeroVecOwned};
+use crate::owned::VarZeroVecOwned;
 use crate::shelf::Shelf;
 use std::alloc::Global;
 use std::sync::ledger::Ledger;

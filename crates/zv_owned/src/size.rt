@@ -4,7 +4,7 @@ ghost use Rattle.zv_var.specs.Views.{list_of};
 ghost use Rattle.zv_owned.specs.Changes.{HasPlace, IsBelow, takes_change};
 ghost use Rattle.zv_owned.specs.Size.{max_of, size, takes_insert, takes_pushes, takes_replace};
 
-use crate::owned::Change;
+use crate::change::Change;
 use zv_ule::{VarZeroVecFormat, ZvArg, ZvKind};
 use zv_var::slice::VarZeroSlice;
 

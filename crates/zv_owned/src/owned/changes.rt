@@ -1,0 +1,261 @@
+// Changes of an owned list.
+ghost use Rattle.std.specs.Prelude.{◌≡◌, ◌∷◌, ◌++◌, ◌&&◌, ◌+◌, ◌^◌, ◌<◌, ◌≤◌, [], length, set};
+ghost use Rattle.std.specs.Prelude.{slice_index_or, Option, None, OnOk, OnErr, List, Some, ◌-◌};
+ghost use Rattle.std.specs.Prelude.{true};
+ghost use Rattle.std.specs.List.{insert, remove, splice};
+ghost use Rattle.zv_var.specs.Format.{enc};
+ghost use Rattle.zv_owned.specs.Changes.{HasPlace, IsBelow, OnMemory, changed};
+ghost use Rattle.zv_owned.specs.Changes.{takes_change};
+ghost use Rattle.zv_owned.specs.Owned.{TooLargeUnless};
+ghost use Rattle.zv_owned.specs.Size.{takes_insert, takes_replace, takes_splice};
+ghost use Rattle.zv_owned.specs.Splices.{most_growth, new_bytes};
+ghost use Rattle.zv_owned.specs.Splices.{new_elements};
+
+use super::VarZeroVecOwned;
+use crate::change::Change;
+use crate::encoded::Encoded;
+use crate::error::VecError;
+use crate::size::{takes_insert, takes_replace};
+use crate::splice::splice;
+use std::marker::Brand;
+use std::sync::ledger::{Blank, Ledger};
+use zv_ule::{EncodeAsVarULE, Steps, VarRef, VarZeroVecFormat, ZvArg, ZvKind};
+
+impl<T: ZvKind, F: VarZeroVecFormat> VarZeroVecOwned<T, F> {
+    /// Makes a change, with a counter that nobody reads.
+    #[inline]
+    fn change_from<Q: ZvArg<T>, L: Ledger>(
+        &mut self,
+        index: usize,
+        change: Change<'_, Q>,
+        blank: Blank,
+    ) -> Result<(), VecError>
+        requires place { HasPlace Q.bytes change (length self.old.list) index }
+        requires below { IsBelow Q.bytes change }
+        requires name { blank.name ≡ L.name }
+        requires parts { blank.parts ≡ L.parts }
+        requires some { 0 < blank.parts }
+        ensures ok { OnOk result (self.new.list ≡
+            changed Q.bytes change.entry self.old.list index) }
+        ensures bytes { OnOk result (self.new.bytes ≡ enc F.W self.new.list) }
+        ensures err { OnErr result (self.new ≡ self.old) }
+        ensures refused { TooLargeUnless
+            (takes_change Q.bytes F.W change.entry self.old.list index) result }
+        ensures within { OnMemory result (length self.old.bytes + self.old.spare <
+            length (enc F.W (changed Q.bytes change.entry self.old.list index))) }
+        ensures spare { OnOk result (self.old.spare ≤
+            self.new.spare + (length self.new.bytes - length self.old.bytes)) }
+    {
+        let mut steps = Steps::<L>::start(blank);
+        self.splice_arg_counted(index, change, &mut steps)
+    }
+
+    /// Makes a change, as [`splice_arg_counted`](Self::splice_arg_counted), where nobody counts.
+    #[inline]
+    pub(crate) fn splice_arg<Q: ZvArg<T>>(
+        &mut self,
+        index: usize,
+        change: Change<'_, Q>,
+    ) -> Result<(), VecError>
+        requires place { HasPlace Q.bytes change (length self.old.list) index }
+        requires below { IsBelow Q.bytes change }
+        ensures ok { OnOk result (self.new.list ≡
+            changed Q.bytes change.entry self.old.list index) }
+        ensures bytes { OnOk result (self.new.bytes ≡ enc F.W self.new.list) }
+        ensures err { OnErr result (self.new ≡ self.old) }
+        ensures refused { TooLargeUnless
+            (takes_change Q.bytes F.W change.entry self.old.list index) result }
+        ensures within { OnMemory result (length self.old.bytes + self.old.spare <
+            length (enc F.W (changed Q.bytes change.entry self.old.list index))) }
+        ensures spare { OnOk result (self.old.spare ≤
+            self.new.spare + (length self.new.bytes - length self.old.bytes)) }
+    {
+        self.change_from::<Q, Brand>(index, change, Blank::new(1))
+    }
+
+    /// Puts what is written for a value before the element at a place, or at the end.
+    ///
+    /// # Errors
+    /// As [`insert`](Self::insert).
+    #[inline]
+    pub fn insert_arg<Q: ZvArg<T>>(&mut self, index: usize, value: &Q) -> Result<(), VecError>
+        requires place { index ≤ length self.old.list }
+        requires below { length (Q.bytes value.now) < 2 ^ 64 }
+        ensures ok { OnOk result (self.new.list ≡ insert self.old.list index (Q.bytes value.now)) }
+        ensures bytes { OnOk result (self.new.bytes ≡ enc F.W self.new.list) }
+        ensures err { OnErr result (self.new ≡ self.old) }
+        ensures refused { TooLargeUnless (takes_insert F.W self.old.list
+            (length (Q.bytes value.now))) result }
+        ensures within { OnMemory result (length self.old.bytes + self.old.spare <
+            length (enc F.W (insert self.old.list index (Q.bytes value.now)))) }
+        ensures spare { OnOk result (self.old.spare ≤
+            self.new.spare + (length self.new.bytes - length self.old.bytes)) }
+    {
+        self.splice_arg(index, Change::Insert(value))
+    }
+
+    /// Puts what is written for a value in place of the element at a place.
+    ///
+    /// # Errors
+    /// As [`replace`](Self::replace).
+    #[inline]
+    pub fn replace_arg<Q: ZvArg<T>>(&mut self, index: usize, value: &Q) -> Result<(), VecError>
+        requires place { index < length self.old.list }
+        requires below { length (Q.bytes value.now) < 2 ^ 64 }
+        ensures ok { OnOk result (self.new.list ≡ set self.old.list index (Q.bytes value.now)) }
+        ensures bytes { OnOk result (self.new.bytes ≡ enc F.W self.new.list) }
+        ensures err { OnErr result (self.new ≡ self.old) }
+        ensures refused { TooLargeUnless (takes_replace F.W self.old.list
+            (length (slice_index_or self.old.list index []))
+            (length (Q.bytes value.now))) result }
+        ensures within { OnMemory result (length self.old.bytes + self.old.spare <
+            length (enc F.W (set self.old.list index (Q.bytes value.now)))) }
+        ensures spare { OnOk result (self.old.spare ≤
+            self.new.spare + (length self.new.bytes - length self.old.bytes)) }
+    {
+        self.splice_arg(index, Change::Replace(value))
+    }
+
+    /// A splice in the room that there is, with a counter that nobody reads.
+    #[inline]
+    fn splice_from<Q: ZvArg<T>, L: Ledger>(
+        &mut self,
+        start: usize,
+        gone: usize,
+        value: Option<&Q>,
+        blank: Blank,
+    )
+        requires one { gone ≤ 1 }
+        requires inside { start + gone ≤ length self.old.list }
+        requires change { gone ≡ 0 → value ≡ None → ⊥ }
+        requires taken { takes_splice F.W self.old.list start gone
+            (new_bytes Q.bytes value) ≡ true }
+        requires room { most_growth F.W (new_bytes Q.bytes value) ≤ self.old.spare }
+        requires name { blank.name ≡ L.name }
+        requires parts { blank.parts ≡ L.parts }
+        requires some { 0 < blank.parts }
+        ensures list { self.new.list ≡
+            splice self.old.list start (start + gone) (new_elements Q.bytes value.entry) }
+        ensures bytes { self.new.bytes ≡ enc F.W self.new.list }
+        ensures spare { self.old.spare ≤
+            self.new.spare + most_growth F.W (new_bytes Q.bytes value.entry) }
+    {
+        let mut steps = Steps::<L>::start(blank);
+        let _ = self.splice(start, gone, value, &mut steps);
+    }
+
+    /// Puts what is written for a value before the element at a place, or at the end, in the room
+    /// that there is. It takes no memory, does not ask the size rule, and is never refused.
+    #[inline]
+    pub fn insert_reserved<Q: ZvArg<T>>(&mut self, index: usize, value: &Q)
+        requires place { index ≤ length self.old.list }
+        requires taken { takes_insert F.W self.old.list (length (Q.bytes value.now)) ≡ true }
+        requires room { length (Q.bytes value.now) + F.W ≤ self.old.spare }
+        ensures list { self.new.list ≡ insert self.old.list index (Q.bytes value.now) }
+        ensures bytes { self.new.bytes ≡ enc F.W self.new.list }
+        ensures spare { self.old.spare ≤ self.new.spare + (length (Q.bytes value.now) + F.W) }
+    {
+        self.splice_from::<Q, Brand>(index, 0, Some(value), Blank::new(1));
+    }
+
+    /// Puts what is written for a value in place of the element at a place, as
+    /// [`insert_reserved`](Self::insert_reserved).
+    #[inline]
+    #[tactic(auto, using(crate::proofs::SizeRule::splice_set))]
+    pub fn replace_reserved<Q: ZvArg<T>>(&mut self, index: usize, value: &Q)
+        requires place { index < length self.old.list }
+        requires taken { takes_replace F.W self.old.list
+            (length (slice_index_or self.old.list index []))
+            (length (Q.bytes value.now)) ≡ true }
+        requires room { length (Q.bytes value.now) + F.W ≤ self.old.spare }
+        ensures list { self.new.list ≡ set self.old.list index (Q.bytes value.now) }
+        ensures bytes { self.new.bytes ≡ enc F.W self.new.list }
+        ensures spare { self.old.spare ≤ self.new.spare + (length (Q.bytes value.now) + F.W) }
+    {
+        self.splice_from::<Q, Brand>(index, 1, Some(value), Blank::new(1));
+    }
+
+    /// Takes out the element at a place. It takes no memory, and is never refused.
+    #[inline]
+    pub fn remove(&mut self, index: usize)
+        requires place { index < length self.old.list }
+        ensures list { self.new.list ≡ remove self.old.list index }
+        ensures bytes { self.new.bytes ≡ enc F.W self.new.list }
+        ensures spare { self.old.spare ≤ self.new.spare }
+    {
+        self.splice_from::<VarRef<'_, T>, Brand>(index, 1, None, Blank::new(1));
+    }
+
+    /// Puts a value's spelling before the element at a place, or at the end.
+    ///
+    /// # Errors
+    /// [`VecError::TooLarge`] exactly where the value has no spelling or the size rule does not
+    /// take it, and otherwise [`VecError::Memory`]. The list is as it was after either.
+    #[inline]
+    pub fn insert<A: EncodeAsVarULE<T>>(
+        &mut self,
+        index: usize,
+        element: &A,
+    ) -> Result<(), VecError>
+        requires place { index ≤ length self.old.list }
+        ensures ok { OnOk result (self.new.list ≡
+            insert self.old.list index (A.spelling element.now)) }
+        ensures bytes { OnOk result (self.new.bytes ≡ enc F.W self.new.list) }
+        ensures err { OnErr result (self.new ≡ self.old) }
+        ensures refused { TooLargeUnless (A.fits element.now && takes_insert F.W self.old.list
+            (length (A.spelling element.now))) result }
+        ensures within { OnMemory result (length self.old.bytes + self.old.spare <
+            length (enc F.W (insert self.old.list index (A.spelling element.now)))) }
+        ensures spare { OnOk result (self.old.spare ≤
+            self.new.spare + (length self.new.bytes - length self.old.bytes)) }
+    {
+        let value = Encoded::for_list(self.as_slice(), element).ok_or(VecError::TooLarge)?;
+        self.insert_arg(index, &value)
+    }
+
+    /// Puts a value's spelling at the end, as [`insert`](Self::insert).
+    #[inline]
+    #[tactic(auto, using(std::proofs::lemmas::List::Edits::insert_end))]
+    pub fn push<A: EncodeAsVarULE<T>>(&mut self, element: &A) -> Result<(), VecError>
+        ensures ok { OnOk result (self.new.list ≡ self.old.list ++ A.spelling element.now ∷ []) }
+        ensures bytes { OnOk result (self.new.bytes ≡ enc F.W self.new.list) }
+        ensures err { OnErr result (self.new ≡ self.old) }
+        ensures refused { TooLargeUnless (A.fits element.now && takes_insert F.W self.old.list
+            (length (A.spelling element.now))) result }
+        ensures within { OnMemory result (length self.old.bytes + self.old.spare <
+            length (enc F.W (self.old.list ++ A.spelling element.now ∷ []))) }
+        ensures spare { OnOk result (self.old.spare ≤
+            self.new.spare + (length self.new.bytes - length self.old.bytes)) }
+    {
+        let end = self.len();
+        self.insert(end, element)
+    }
+
+    /// Puts a value's spelling in place of the element at a place.
+    ///
+    /// # Errors
+    /// As [`insert`](Self::insert). A spelling that is no longer than the element is taken in any
+    /// list, if it is below `F::MAX` bytes.
+    #[inline]
+    pub fn replace<A: EncodeAsVarULE<T>>(
+        &mut self,
+        index: usize,
+        element: &A,
+    ) -> Result<(), VecError>
+        requires place { index < length self.old.list }
+        ensures ok { OnOk result (self.new.list ≡
+            set self.old.list index (A.spelling element.now)) }
+        ensures bytes { OnOk result (self.new.bytes ≡ enc F.W self.new.list) }
+        ensures err { OnErr result (self.new ≡ self.old) }
+        ensures refused { TooLargeUnless (A.fits element.now && takes_replace F.W self.old.list
+            (length (slice_index_or self.old.list index []))
+            (length (A.spelling element.now))) result }
+        ensures within { OnMemory result (length self.old.bytes + self.old.spare <
+            length (enc F.W (set self.old.list index (A.spelling element.now)))) }
+        ensures spare { OnOk result (self.old.spare ≤
+            self.new.spare + (length self.new.bytes - length self.old.bytes)) }
+    {
+        let value = Encoded::for_list(self.as_slice(), element).ok_or(VecError::TooLarge)?;
+        self.replace_arg(index, &value)
+    }
+}
