@@ -218,7 +218,7 @@ impl<T: ZvKind, F: VarZeroVecFormat> VarZeroVecOwned<T, F> {
     pub fn takes_insert(&self, len: usize) -> bool
         ensures { result ≡ takes_insert F.W self.now.list len }
     {
-        takes_insert(self.as_slice(), len)
+        takes_insert::<T, F, F>(self.as_slice(), len)
     }
 
     /// Whether the size rule takes an element of `len` bytes in place of the one at a place.
@@ -228,7 +228,7 @@ impl<T: ZvKind, F: VarZeroVecFormat> VarZeroVecOwned<T, F> {
         ensures { result ≡ takes_replace F.W self.now.list
             (length (slice_index_or self.now.list index [])) len }
     {
-        takes_replace(self.as_slice(), index, len)
+        takes_replace::<T, F, F>(self.as_slice(), index, len)
     }
 
     /// The list's bytes, in the memory that they lie in.

@@ -1,5 +1,5 @@
 // A list in a format that is borrowed, or owns its bytes.
-ghost use Rattle.std.specs.Prelude.{◌≡◌, ◌+◌, [], Option, None, Some, IsTrue, IfOk, IfSome, IsOk};
+ghost use Rattle.std.specs.Prelude.{◌≡◌, ◌≤◌, [], Option, None, Some, IsTrue, IfOk, IfSome, IsOk};
 ghost use Rattle.std.specs.Prelude.{true, false, is_some, not};
 ghost use Rattle.std.specs.Option.{option_map};
 ghost use Rattle.std.specs.Result.{result_err};
@@ -37,9 +37,10 @@ pub type VarZeroVec32<'a, T> = VarZeroVec<'a, T, Index32>;
 
 /// The list of no elements, as [`VarZeroVec::new`].
 impl<T: ZvKind + UsableKind, F: VarZeroVecFormat> Default for VarZeroVec<'_, T, F> {
-    ghost use Rattle.zv_owned.specs.Vectors.{vector_list, vector_owned};
+    ghost use Rattle.zv_owned.specs.Vectors.{vector_bytes, vector_list, vector_owned, vector_spare};
 
-    ghost is_default = { λ v. (vector_list v ≡ []) × (vector_owned v ≡ false) };
+    ghost is_default = { λ v. (vector_list v ≡ []) × (vector_owned v ≡ false)
+        × (vector_bytes v ≡ []) × (vector_spare v ≡ 0) };
 
     #[inline]
     fn default() -> Self {
@@ -86,6 +87,7 @@ impl<'a, T: ZvKind, F: VarZeroVecFormat> VarZeroVec<'a, T, F> {
         ensures spare { vector_spare result ≡ owned.spare }
         ensures owned { vector_owned result ≡ true }
     {
+        // `as_slice` is called for what it says of the kind: it is usable, also for no bytes.
         owned.as_slice();
         VarZeroVec {
             view: VarZeroSlice::of_valid(&[]),
@@ -152,7 +154,8 @@ impl<'a, T: ZvKind, F: VarZeroVecFormat> VarZeroVec<'a, T, F> {
             F.Len.IntegerULE.own F.Len.ULE self.entry result) }
         ensures list { IfOk result (λ v. v.now.list ≡ vector_list self.old) }
         ensures bytes { IfOk result (λ v. v.now.bytes ≡ vector_bytes self.old) }
-        ensures kept { IsTrue (vector_owned self.old) → IsOk result }
+        ensures keeps_room { IfOk result (λ v. vector_spare self.old ≤ v.now.spare) }
+        ensures succeeds { IsTrue (vector_owned self.old) → IsOk result }
     {
         if let Err(e) = self.slot.reserve(alloc, self.view, 0) {
             return Err(e);

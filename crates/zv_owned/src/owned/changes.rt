@@ -1,56 +1,82 @@
 // Changes of an owned list.
-ghost use Rattle.std.specs.Prelude.{◌≡◌, ◌∷◌, ◌++◌, ◌&&◌, ◌+◌, ◌^◌, ◌<◌, ◌≤◌, [], length, set};
-ghost use Rattle.std.specs.Prelude.{slice_index_or, Option, None, OnOk, OnErr, List, Some, ◌-◌};
-ghost use Rattle.std.specs.Prelude.{true};
-ghost use Rattle.std.specs.List.{insert, remove, splice};
+ghost use Rattle.std.specs.Prelude.{IsOk, ◌≡◌, ◌∷◌, ◌++◌, ◌&&◌, ◌+◌, ◌^◌, ◌<◌, ◌≤◌, [], length};
+ghost use Rattle.std.specs.Prelude.{set, slice_index_or, OnOk, OnErr, List, ◌-◌, true};
+ghost use Rattle.std.specs.List.{insert, remove};
 ghost use Rattle.zv_var.specs.Format.{enc};
-ghost use Rattle.zv_owned.specs.Changes.{HasPlace, IsBelow, OnMemory, changed};
+ghost use Rattle.zv_owned.specs.Changes.{HasPlace, IsBelow, OnMemory, changed, growth};
 ghost use Rattle.zv_owned.specs.Changes.{takes_change};
 ghost use Rattle.zv_owned.specs.Owned.{TooLargeUnless};
-ghost use Rattle.zv_owned.specs.Size.{takes_insert, takes_replace, takes_splice};
-ghost use Rattle.zv_owned.specs.Splices.{most_growth, new_bytes};
-ghost use Rattle.zv_owned.specs.Splices.{new_elements};
+ghost use Rattle.zv_owned.specs.Size.{takes_insert, takes_replace};
 
 use super::VarZeroVecOwned;
 use crate::change::Change;
 use crate::encoded::Encoded;
 use crate::error::VecError;
-use crate::size::{takes_insert, takes_replace};
+use crate::size::growth_of;
 use crate::splice::splice;
 use std::marker::Brand;
 use std::sync::ledger::{Blank, Ledger};
-use zv_ule::{EncodeAsVarULE, Steps, VarRef, VarZeroVecFormat, ZvArg, ZvKind};
+use zv_ule::{EncodeAsVarULE, NoMemory, Steps, VarRef, VarZeroVecFormat, ZvArg, ZvKind};
 
 impl<T: ZvKind, F: VarZeroVecFormat> VarZeroVecOwned<T, F> {
-    /// Makes a change, with a counter that nobody reads.
+    /// Makes a change that the size rule takes, uncounted.
     #[inline]
-    fn change_from<Q: ZvArg<T>, L: Ledger>(
+    fn make_from<Q: ZvArg<T>, L: Ledger>(
         &mut self,
         index: usize,
         change: Change<'_, Q>,
         blank: Blank,
-    ) -> Result<(), VecError>
+    ) -> Result<(), NoMemory>
         requires place { HasPlace Q.bytes change (length self.old.list) index }
-        requires below { IsBelow Q.bytes change }
+        requires fits { takes_change Q.bytes F.W change self.old.list index ≡ true }
         requires name { blank.name ≡ L.name }
         requires parts { blank.parts ≡ L.parts }
         requires some { 0 < blank.parts }
-        ensures ok { OnOk result (self.new.list ≡
+        ensures list { OnOk result (self.new.list ≡
             changed Q.bytes change.entry self.old.list index) }
         ensures bytes { OnOk result (self.new.bytes ≡ enc F.W self.new.list) }
+        // where it is refused
         ensures err { OnErr result (self.new ≡ self.old) }
-        ensures refused { TooLargeUnless
-            (takes_change Q.bytes F.W change.entry self.old.list index) result }
-        ensures within { OnMemory result (length self.old.bytes + self.old.spare <
+        ensures succeeds { OnErr result (length self.old.bytes + self.old.spare <
             length (enc F.W (changed Q.bytes change.entry self.old.list index))) }
-        ensures spare { OnOk result (self.old.spare ≤
+        ensures reserved { growth Q.bytes F.W change.entry ≤ self.old.spare → IsOk result }
+        // what it takes
+        ensures keeps_room { OnOk result (self.old.spare ≤
             self.new.spare + (length self.new.bytes - length self.old.bytes)) }
+        ensures growth { OnOk result (self.old.spare ≤
+            self.new.spare + growth Q.bytes F.W change.entry) }
     {
         let mut steps = Steps::<L>::start(blank);
-        self.splice_arg_counted(index, change, &mut steps)
+        splice::<T, F, Q, L>(&mut self.shelf, index, change, &mut steps)
     }
 
-    /// Makes a change, as [`splice_arg_counted`](Self::splice_arg_counted), where nobody counts.
+    /// Makes a change that the size rule takes.
+    #[inline]
+    pub(crate) fn make<Q: ZvArg<T>>(
+        &mut self,
+        index: usize,
+        change: Change<'_, Q>,
+    ) -> Result<(), NoMemory>
+        requires place { HasPlace Q.bytes change (length self.old.list) index }
+        requires fits { takes_change Q.bytes F.W change self.old.list index ≡ true }
+        ensures list { OnOk result (self.new.list ≡
+            changed Q.bytes change.entry self.old.list index) }
+        ensures bytes { OnOk result (self.new.bytes ≡ enc F.W self.new.list) }
+        // where it is refused
+        ensures err { OnErr result (self.new ≡ self.old) }
+        ensures succeeds { OnErr result (length self.old.bytes + self.old.spare <
+            length (enc F.W (changed Q.bytes change.entry self.old.list index))) }
+        ensures reserved { growth Q.bytes F.W change.entry ≤ self.old.spare → IsOk result }
+        // what it takes
+        ensures keeps_room { OnOk result (self.old.spare ≤
+            self.new.spare + (length self.new.bytes - length self.old.bytes)) }
+        ensures growth { OnOk result (self.old.spare ≤
+            self.new.spare + growth Q.bytes F.W change.entry) }
+    {
+        self.make_from::<Q, Brand>(index, change, Blank::new(1))
+    }
+
+    /// Makes a change, as [`splice_arg_counted`](Self::splice_arg_counted), uncounted.
     #[inline]
     pub(crate) fn splice_arg<Q: ZvArg<T>>(
         &mut self,
@@ -62,15 +88,21 @@ impl<T: ZvKind, F: VarZeroVecFormat> VarZeroVecOwned<T, F> {
         ensures ok { OnOk result (self.new.list ≡
             changed Q.bytes change.entry self.old.list index) }
         ensures bytes { OnOk result (self.new.bytes ≡ enc F.W self.new.list) }
+        // where it is refused
         ensures err { OnErr result (self.new ≡ self.old) }
         ensures refused { TooLargeUnless
             (takes_change Q.bytes F.W change.entry self.old.list index) result }
-        ensures within { OnMemory result (length self.old.bytes + self.old.spare <
+        ensures succeeds { OnMemory result (length self.old.bytes + self.old.spare <
             length (enc F.W (changed Q.bytes change.entry self.old.list index))) }
-        ensures spare { OnOk result (self.old.spare ≤
+        // what it takes
+        ensures keeps_room { OnOk result (self.old.spare ≤
             self.new.spare + (length self.new.bytes - length self.old.bytes)) }
     {
-        self.change_from::<Q, Brand>(index, change, Blank::new(1))
+        if growth_of(self.as_slice(), index, &change).is_none() {
+            return Err(VecError::TooLarge);
+        }
+        self.make(index, change)?;
+        Ok(())
     }
 
     /// Puts what is written for a value before the element at a place, or at the end.
@@ -83,12 +115,14 @@ impl<T: ZvKind, F: VarZeroVecFormat> VarZeroVecOwned<T, F> {
         requires below { length (Q.bytes value.now) < 2 ^ 64 }
         ensures ok { OnOk result (self.new.list ≡ insert self.old.list index (Q.bytes value.now)) }
         ensures bytes { OnOk result (self.new.bytes ≡ enc F.W self.new.list) }
+        // where it is refused
         ensures err { OnErr result (self.new ≡ self.old) }
         ensures refused { TooLargeUnless (takes_insert F.W self.old.list
             (length (Q.bytes value.now))) result }
-        ensures within { OnMemory result (length self.old.bytes + self.old.spare <
+        ensures succeeds { OnMemory result (length self.old.bytes + self.old.spare <
             length (enc F.W (insert self.old.list index (Q.bytes value.now)))) }
-        ensures spare { OnOk result (self.old.spare ≤
+        // what it takes
+        ensures keeps_room { OnOk result (self.old.spare ≤
             self.new.spare + (length self.new.bytes - length self.old.bytes)) }
     {
         self.splice_arg(index, Change::Insert(value))
@@ -104,44 +138,18 @@ impl<T: ZvKind, F: VarZeroVecFormat> VarZeroVecOwned<T, F> {
         requires below { length (Q.bytes value.now) < 2 ^ 64 }
         ensures ok { OnOk result (self.new.list ≡ set self.old.list index (Q.bytes value.now)) }
         ensures bytes { OnOk result (self.new.bytes ≡ enc F.W self.new.list) }
+        // where it is refused
         ensures err { OnErr result (self.new ≡ self.old) }
         ensures refused { TooLargeUnless (takes_replace F.W self.old.list
             (length (slice_index_or self.old.list index []))
             (length (Q.bytes value.now))) result }
-        ensures within { OnMemory result (length self.old.bytes + self.old.spare <
+        ensures succeeds { OnMemory result (length self.old.bytes + self.old.spare <
             length (enc F.W (set self.old.list index (Q.bytes value.now)))) }
-        ensures spare { OnOk result (self.old.spare ≤
+        // what it takes
+        ensures keeps_room { OnOk result (self.old.spare ≤
             self.new.spare + (length self.new.bytes - length self.old.bytes)) }
     {
         self.splice_arg(index, Change::Replace(value))
-    }
-
-    /// A splice in the room that there is, with a counter that nobody reads.
-    #[inline]
-    fn splice_from<Q: ZvArg<T>, L: Ledger>(
-        &mut self,
-        start: usize,
-        gone: usize,
-        value: Option<&Q>,
-        blank: Blank,
-    )
-        requires one { gone ≤ 1 }
-        requires inside { start + gone ≤ length self.old.list }
-        requires change { gone ≡ 0 → value ≡ None → ⊥ }
-        requires taken { takes_splice F.W self.old.list start gone
-            (new_bytes Q.bytes value) ≡ true }
-        requires room { most_growth F.W (new_bytes Q.bytes value) ≤ self.old.spare }
-        requires name { blank.name ≡ L.name }
-        requires parts { blank.parts ≡ L.parts }
-        requires some { 0 < blank.parts }
-        ensures list { self.new.list ≡
-            splice self.old.list start (start + gone) (new_elements Q.bytes value.entry) }
-        ensures bytes { self.new.bytes ≡ enc F.W self.new.list }
-        ensures spare { self.old.spare ≤
-            self.new.spare + most_growth F.W (new_bytes Q.bytes value.entry) }
-    {
-        let mut steps = Steps::<L>::start(blank);
-        let _ = self.splice(start, gone, value, &mut steps);
     }
 
     /// Puts what is written for a value before the element at a place, or at the end, in the room
@@ -149,30 +157,31 @@ impl<T: ZvKind, F: VarZeroVecFormat> VarZeroVecOwned<T, F> {
     #[inline]
     pub fn insert_reserved<Q: ZvArg<T>>(&mut self, index: usize, value: &Q)
         requires place { index ≤ length self.old.list }
-        requires taken { takes_insert F.W self.old.list (length (Q.bytes value.now)) ≡ true }
+        requires fits { takes_insert F.W self.old.list (length (Q.bytes value.now)) ≡ true }
         requires room { length (Q.bytes value.now) + F.W ≤ self.old.spare }
         ensures list { self.new.list ≡ insert self.old.list index (Q.bytes value.now) }
         ensures bytes { self.new.bytes ≡ enc F.W self.new.list }
-        ensures spare { self.old.spare ≤ self.new.spare + (length (Q.bytes value.now) + F.W) }
+        // what it takes
+        ensures keeps_room { self.old.spare ≤ self.new.spare + (length (Q.bytes value.now) + F.W) }
     {
-        self.splice_from::<Q, Brand>(index, 0, Some(value), Blank::new(1));
+        let _ = self.make(index, Change::Insert(value));
     }
 
     /// Puts what is written for a value in place of the element at a place, as
     /// [`insert_reserved`](Self::insert_reserved).
     #[inline]
-    #[tactic(auto, using(crate::proofs::SizeRule::splice_set))]
     pub fn replace_reserved<Q: ZvArg<T>>(&mut self, index: usize, value: &Q)
         requires place { index < length self.old.list }
-        requires taken { takes_replace F.W self.old.list
+        requires fits { takes_replace F.W self.old.list
             (length (slice_index_or self.old.list index []))
             (length (Q.bytes value.now)) ≡ true }
         requires room { length (Q.bytes value.now) + F.W ≤ self.old.spare }
         ensures list { self.new.list ≡ set self.old.list index (Q.bytes value.now) }
         ensures bytes { self.new.bytes ≡ enc F.W self.new.list }
-        ensures spare { self.old.spare ≤ self.new.spare + (length (Q.bytes value.now) + F.W) }
+        // what it takes
+        ensures keeps_room { self.old.spare ≤ self.new.spare + (length (Q.bytes value.now) + F.W) }
     {
-        self.splice_from::<Q, Brand>(index, 1, Some(value), Blank::new(1));
+        let _ = self.make(index, Change::Replace(value));
     }
 
     /// Takes out the element at a place. It takes no memory, and is never refused.
@@ -181,9 +190,9 @@ impl<T: ZvKind, F: VarZeroVecFormat> VarZeroVecOwned<T, F> {
         requires place { index < length self.old.list }
         ensures list { self.new.list ≡ remove self.old.list index }
         ensures bytes { self.new.bytes ≡ enc F.W self.new.list }
-        ensures spare { self.old.spare ≤ self.new.spare }
+        ensures keeps_room { self.old.spare ≤ self.new.spare }
     {
-        self.splice_from::<VarRef<'_, T>, Brand>(index, 1, None, Blank::new(1));
+        let _ = self.make::<VarRef<'_, T>>(index, Change::Remove);
     }
 
     /// Puts a value's spelling before the element at a place, or at the end.
@@ -201,12 +210,14 @@ impl<T: ZvKind, F: VarZeroVecFormat> VarZeroVecOwned<T, F> {
         ensures ok { OnOk result (self.new.list ≡
             insert self.old.list index (A.spelling element.now)) }
         ensures bytes { OnOk result (self.new.bytes ≡ enc F.W self.new.list) }
+        // where it is refused
         ensures err { OnErr result (self.new ≡ self.old) }
         ensures refused { TooLargeUnless (A.fits element.now && takes_insert F.W self.old.list
             (length (A.spelling element.now))) result }
-        ensures within { OnMemory result (length self.old.bytes + self.old.spare <
+        ensures succeeds { OnMemory result (length self.old.bytes + self.old.spare <
             length (enc F.W (insert self.old.list index (A.spelling element.now)))) }
-        ensures spare { OnOk result (self.old.spare ≤
+        // what it takes
+        ensures keeps_room { OnOk result (self.old.spare ≤
             self.new.spare + (length self.new.bytes - length self.old.bytes)) }
     {
         let value = Encoded::for_list(self.as_slice(), element).ok_or(VecError::TooLarge)?;
@@ -219,12 +230,14 @@ impl<T: ZvKind, F: VarZeroVecFormat> VarZeroVecOwned<T, F> {
     pub fn push<A: EncodeAsVarULE<T>>(&mut self, element: &A) -> Result<(), VecError>
         ensures ok { OnOk result (self.new.list ≡ self.old.list ++ A.spelling element.now ∷ []) }
         ensures bytes { OnOk result (self.new.bytes ≡ enc F.W self.new.list) }
+        // where it is refused
         ensures err { OnErr result (self.new ≡ self.old) }
         ensures refused { TooLargeUnless (A.fits element.now && takes_insert F.W self.old.list
             (length (A.spelling element.now))) result }
-        ensures within { OnMemory result (length self.old.bytes + self.old.spare <
+        ensures succeeds { OnMemory result (length self.old.bytes + self.old.spare <
             length (enc F.W (self.old.list ++ A.spelling element.now ∷ []))) }
-        ensures spare { OnOk result (self.old.spare ≤
+        // what it takes
+        ensures keeps_room { OnOk result (self.old.spare ≤
             self.new.spare + (length self.new.bytes - length self.old.bytes)) }
     {
         let end = self.len();
@@ -246,13 +259,15 @@ impl<T: ZvKind, F: VarZeroVecFormat> VarZeroVecOwned<T, F> {
         ensures ok { OnOk result (self.new.list ≡
             set self.old.list index (A.spelling element.now)) }
         ensures bytes { OnOk result (self.new.bytes ≡ enc F.W self.new.list) }
+        // where it is refused
         ensures err { OnErr result (self.new ≡ self.old) }
         ensures refused { TooLargeUnless (A.fits element.now && takes_replace F.W self.old.list
             (length (slice_index_or self.old.list index []))
             (length (A.spelling element.now))) result }
-        ensures within { OnMemory result (length self.old.bytes + self.old.spare <
+        ensures succeeds { OnMemory result (length self.old.bytes + self.old.spare <
             length (enc F.W (set self.old.list index (A.spelling element.now)))) }
-        ensures spare { OnOk result (self.old.spare ≤
+        // what it takes
+        ensures keeps_room { OnOk result (self.old.spare ≤
             self.new.spare + (length self.new.bytes - length self.old.bytes)) }
     {
         let value = Encoded::for_list(self.as_slice(), element).ok_or(VecError::TooLarge)?;

@@ -1,5 +1,6 @@
 // The room of an owned list.
-ghost use Rattle.std.specs.Prelude.{◌≡◌, ◌+◌, ◌^◌, ◌≤◌, [], IsTrue, IfOk, IsOk, OnOk, OnErr, ◌*◌};
+ghost use Rattle.std.specs.Prelude.{length, ◌≡◌, ◌+◌, ◌^◌, ◌≤◌, [], IsTrue, IfOk, IsOk, OnOk};
+ghost use Rattle.std.specs.Prelude.{OnErr, ◌*◌};
 
 use super::VarZeroVecOwned;
 use std::alloc::Global;
@@ -20,9 +21,11 @@ impl<T: ZvKind, F: VarZeroVecFormat> VarZeroVecOwned<T, F> {
         ensures list { self.new.list ≡ self.old.list }
         ensures bytes { self.new.bytes ≡ self.old.bytes }
         ensures ok { OnOk result (n ≤ self.new.spare) }
+        // where it is refused
         ensures err { OnErr result (self.new ≡ self.old) }
-        ensures kept { self.old.spare ≤ self.new.spare }
-        ensures within { n ≤ self.old.spare → IsOk result }
+        ensures succeeds { n ≤ self.old.spare → IsOk result }
+        // what it takes
+        ensures keeps_room { self.old.spare ≤ self.new.spare }
     {
         self.shelf.reserve(n)
     }
@@ -33,10 +36,13 @@ impl<T: ZvKind, F: VarZeroVecFormat> VarZeroVecOwned<T, F> {
         ensures list { self.new.list ≡ self.old.list }
         ensures bytes { self.new.bytes ≡ self.old.bytes }
         ensures ok { OnOk result (additional * (F.W + 4) ≤ self.new.spare) }
+        // where it is refused
         ensures err { OnErr result (self.new ≡ self.old) }
-        ensures kept { self.old.spare ≤ self.new.spare }
-        ensures within { additional * (F.W + 4) ≤ self.old.spare → IsOk result }
+        ensures succeeds { additional * (F.W + 4) ≤ self.old.spare → IsOk result }
+        // what it takes
+        ensures keeps_room { self.old.spare ≤ self.new.spare }
     {
+        // `spare` is called for its clause that the spare is below 2^64: so is what it covers.
         let _spare = self.spare();
         let n = room_for::<F>(additional)?;
         self.reserve_bytes(n)
@@ -49,7 +55,7 @@ impl<T: ZvKind, F: VarZeroVecFormat> VarZeroVecOwned<T, F> {
         ensures list { IfOk result (λ v. v.list ≡ []) }
         ensures bytes { IfOk result (λ v. v.bytes ≡ []) }
         ensures spare { IfOk result (λ v. capacity * (F.W + 4) ≤ v.spare) }
-        ensures free { capacity ≡ 0 → IsOk result }
+        ensures succeeds { capacity ≡ 0 → IsOk result }
     {
         let mut list = VarZeroVecOwned::new(alloc);
         list.reserve(capacity)?;
@@ -61,7 +67,7 @@ impl<T: ZvKind, F: VarZeroVecFormat> VarZeroVecOwned<T, F> {
     pub fn clear(&mut self)
         ensures list { self.new.list ≡ [] }
         ensures bytes { self.new.bytes ≡ [] }
-        ensures spare { self.old.spare ≤ self.new.spare }
+        ensures keeps_room { length self.old.bytes + self.old.spare ≤ self.new.spare }
     {
         self.shelf.clear();
     }

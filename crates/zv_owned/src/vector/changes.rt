@@ -12,7 +12,7 @@ use super::VarZeroVec;
 use crate::change::Change;
 use crate::error::VecError;
 use crate::owned::VarZeroVecOwned;
-use crate::size::{growth_of, takes_change, takes_insert, takes_replace};
+use crate::size::growth_of;
 use std::alloc::Global;
 use zv_ule::{NoMemory, VarZeroVecFormat, ZvArg, ZvKind};
 use zv_var::slice::VarZeroSlice;
@@ -32,11 +32,9 @@ fn changed_copy<T: ZvKind, F: VarZeroVecFormat, Q: ZvArg<T>>(
     ensures refused { TooLargeUnless
         (takes_change Q.bytes F.W change.entry (list_of list.entry) index) result }
 {
-    if !takes_change(list, index, &change) {
-        return Err(VecError::TooLarge);
-    }
-    let mut copy = VarZeroVecOwned::with_copy(alloc, list, growth_of(list, &change))?;
-    copy.splice_arg(index, change)?;
+    let more = growth_of(list, index, &change).ok_or(VecError::TooLarge)?;
+    let mut copy = VarZeroVecOwned::with_copy(alloc, list, more)?;
+    copy.make(index, change)?;
     Ok(copy)
 }
 
@@ -59,10 +57,11 @@ impl<'a, T: ZvKind, F: VarZeroVecFormat> VarZeroVec<'a, T, F> {
             changed Q.bytes change.entry (vector_list self.old) index) }
         ensures bytes { OnOk result (vector_bytes self.new ≡ enc F.W (vector_list self.new)) }
         ensures owned { OnOk result (vector_owned self.new ≡ true) }
+        // where it is refused
         ensures err { OnErr result (self.new ≡ self.old) }
         ensures refused { TooLargeUnless
             (takes_change Q.bytes F.W change.entry (vector_list self.old) index) result }
-        ensures within { IsTrue (vector_owned self.old) → OnMemory result
+        ensures succeeds { IsTrue (vector_owned self.old) → OnMemory result
             (length (vector_bytes self.old) + vector_spare self.old <
             length (enc F.W (changed Q.bytes change.entry (vector_list self.old) index))) }
     {
@@ -94,6 +93,7 @@ impl<'a, T: ZvKind, F: VarZeroVecFormat> VarZeroVec<'a, T, F> {
             insert (vector_list self.old) index (Q.bytes value.now)) }
         ensures bytes { OnOk result (vector_bytes self.new ≡ enc F.W (vector_list self.new)) }
         ensures owned { OnOk result (vector_owned self.new ≡ true) }
+        // where it is refused
         ensures err { OnErr result (self.new ≡ self.old) }
         ensures refused { TooLargeUnless (takes_insert F.W (vector_list self.old)
             (length (Q.bytes value.now))) result }
@@ -118,6 +118,7 @@ impl<'a, T: ZvKind, F: VarZeroVecFormat> VarZeroVec<'a, T, F> {
             set (vector_list self.old) index (Q.bytes value.now)) }
         ensures bytes { OnOk result (vector_bytes self.new ≡ enc F.W (vector_list self.new)) }
         ensures owned { OnOk result (vector_owned self.new ≡ true) }
+        // where it is refused
         ensures err { OnErr result (self.new ≡ self.old) }
         ensures refused { TooLargeUnless (takes_replace F.W (vector_list self.old)
             (length (slice_index_or (vector_list self.old) index []))
@@ -135,8 +136,9 @@ impl<'a, T: ZvKind, F: VarZeroVecFormat> VarZeroVec<'a, T, F> {
         ensures ok { OnOk result (vector_list self.new ≡ remove (vector_list self.old) index) }
         ensures bytes { OnOk result (vector_bytes self.new ≡ enc F.W (vector_list self.new)) }
         ensures owned { OnOk result (vector_owned self.new ≡ true) }
+        // where it is refused
         ensures err { OnErr result (self.new ≡ self.old) }
-        ensures free { IsTrue (vector_owned self.old) → IsOk result }
+        ensures succeeds { IsTrue (vector_owned self.old) → IsOk result }
     {
         match self.slot.as_owned() {
             Some(owned) => owned.remove(index),
@@ -155,14 +157,15 @@ impl<'a, T: ZvKind, F: VarZeroVecFormat> VarZeroVec<'a, T, F> {
     pub fn insert_reserved<Q: ZvArg<T>>(&mut self, index: usize, value: &Q)
         requires owned { IsTrue (vector_owned self.old) }
         requires place { index ≤ length (vector_list self.old) }
-        requires taken { takes_insert F.W (vector_list self.old)
+        requires fits { takes_insert F.W (vector_list self.old)
             (length (Q.bytes value.now)) ≡ true }
         requires room { length (Q.bytes value.now) + F.W ≤ vector_spare self.old }
         ensures list { vector_list self.new ≡
             insert (vector_list self.old) index (Q.bytes value.now) }
         ensures bytes { vector_bytes self.new ≡ enc F.W (vector_list self.new) }
         ensures owned { vector_owned self.new ≡ true }
-        ensures spare { vector_spare self.old ≤
+        // what it takes
+        ensures keeps_room { vector_spare self.old ≤
             vector_spare self.new + (length (Q.bytes value.now) + F.W) }
     {
         if let Some(owned) = self.slot.as_owned() {
@@ -176,7 +179,7 @@ impl<'a, T: ZvKind, F: VarZeroVecFormat> VarZeroVec<'a, T, F> {
     pub fn replace_reserved<Q: ZvArg<T>>(&mut self, index: usize, value: &Q)
         requires owned { IsTrue (vector_owned self.old) }
         requires place { index < length (vector_list self.old) }
-        requires taken { takes_replace F.W (vector_list self.old)
+        requires fits { takes_replace F.W (vector_list self.old)
             (length (slice_index_or (vector_list self.old) index []))
             (length (Q.bytes value.now)) ≡ true }
         requires room { length (Q.bytes value.now) + F.W ≤ vector_spare self.old }
@@ -184,7 +187,8 @@ impl<'a, T: ZvKind, F: VarZeroVecFormat> VarZeroVec<'a, T, F> {
             set (vector_list self.old) index (Q.bytes value.now) }
         ensures bytes { vector_bytes self.new ≡ enc F.W (vector_list self.new) }
         ensures owned { vector_owned self.new ≡ true }
-        ensures spare { vector_spare self.old ≤
+        // what it takes
+        ensures keeps_room { vector_spare self.old ≤
             vector_spare self.new + (length (Q.bytes value.now) + F.W) }
     {
         if let Some(owned) = self.slot.as_owned() {
@@ -200,7 +204,8 @@ impl<'a, T: ZvKind, F: VarZeroVecFormat> VarZeroVec<'a, T, F> {
         ensures list { vector_list self.new ≡ remove (vector_list self.old) index }
         ensures bytes { vector_bytes self.new ≡ enc F.W (vector_list self.new) }
         ensures owned { vector_owned self.new ≡ true }
-        ensures spare { vector_spare self.old ≤ vector_spare self.new }
+        // what it takes
+        ensures keeps_room { vector_spare self.old ≤ vector_spare self.new }
     {
         if let Some(owned) = self.slot.as_owned() {
             owned.remove(index);

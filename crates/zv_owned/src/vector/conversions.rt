@@ -1,6 +1,6 @@
 // What a list that is borrowed, or owns its bytes, becomes, and what becomes one.
-ghost use Rattle.std.specs.Prelude.{◌≡◌, ◌==◌, ◌≤◌, length, IsTrue, IfOk, IsOk, true, false, ◌||◌};
-ghost use Rattle.std.specs.Prelude.{is_some, map, not};
+ghost use Rattle.std.specs.Prelude.{[], IfSome, IfNone, OnSome, ◌≡◌, ◌==◌, ◌≤◌, length, IsTrue};
+ghost use Rattle.std.specs.Prelude.{IfOk, IsOk, true, false, ◌||◌, is_some, map, not};
 ghost use Rattle.zv_var.specs.Format.{elements, enc};
 ghost use Rattle.zv_var.specs.Serialize.{serialized_len};
 ghost use Rattle.zv_var.specs.Views.{bytes_of, list_of};
@@ -16,13 +16,33 @@ use zv_var::slice::VarZeroSlice;
 impl<'a, T: ZvKind, F: VarZeroVecFormat> VarZeroVec<'a, T, F> {
     ghost use Rattle.zv_owned.specs.Vectors.{vector_bytes, vector_list, vector_owned, vector_spare};
 
+    /// The owned list, with its bytes and its spare as they are, or `None` where the vector is
+    /// borrowed. The list of no elements is left, borrowed, or the vector as it was.
+    /// [`new_owned`](Self::new_owned) is the way back.
+    #[inline]
+    pub fn take_owned(&mut self) -> Option<VarZeroVecOwned<T, F>>
+        ensures some { is_some result ≡ vector_owned self.old }
+        ensures list { IfSome result (λ v. v.list ≡ vector_list self.old) }
+        ensures bytes { IfSome result (λ v. v.bytes ≡ vector_bytes self.old) }
+        ensures spare { IfSome result (λ v. v.spare ≡ vector_spare self.old) }
+        // the vector that is left
+        ensures borrowed { vector_owned self.new ≡ false }
+        ensures left { OnSome result (vector_list self.new ≡ []) }
+        ensures left_bytes { OnSome result (vector_bytes self.new ≡ []) }
+        ensures none { IfNone result (self.new ≡ self.old) }
+    {
+        let owned = self.slot.owned.take()?;
+        self.view = VarZeroSlice::of_valid(&[]);
+        Some(owned)
+    }
+
     /// The list as one that owns its bytes. It takes memory only where it is borrowed.
     pub fn into_owned(self, alloc: Global) -> Result<VarZeroVec<'static, T, F>, NoMemory>
         ensures list { IfOk result (λ v. vector_list v ≡ vector_list self.entry) }
         ensures bytes { IfOk result (λ v. vector_bytes v ≡ vector_bytes self.entry) }
         ensures owned { IfOk result (λ v. vector_owned v ≡ true) }
-        ensures kept { IfOk result (λ v. vector_spare self.entry ≤ vector_spare v) }
-        ensures free { IsTrue (vector_owned self.entry) → IsOk result }
+        ensures keeps_room { IfOk result (λ v. vector_spare self.entry ≤ vector_spare v) }
+        ensures succeeds { IsTrue (vector_owned self.entry) → IsOk result }
     {
         let owned = self.slot.into_list(alloc, self.view)?;
         Ok(VarZeroVec::new_owned(owned))
@@ -31,7 +51,7 @@ impl<'a, T: ZvKind, F: VarZeroVecFormat> VarZeroVec<'a, T, F> {
     /// The list's bytes. It takes memory only where they are borrowed.
     pub fn into_bytes(self, alloc: Global) -> Result<Vec<u8>, NoMemory>
         ensures bytes { IfOk result (λ v. v.items ≡ vector_bytes self.entry) }
-        ensures free { IsTrue (vector_owned self.entry) → IsOk result }
+        ensures succeeds { IsTrue (vector_owned self.entry) → IsOk result }
     {
         let owned = self.slot.into_list(alloc, self.view)?;
         Ok(owned.into_bytes())
@@ -43,7 +63,7 @@ impl<'a, T: ZvKind, F: VarZeroVecFormat> VarZeroVec<'a, T, F> {
         ensures list { IfOk result (λ v. vector_list v ≡ vector_list self.now) }
         ensures bytes { IfOk result (λ v. vector_bytes v ≡ vector_bytes self.now) }
         ensures owned { IfOk result (λ v. vector_owned v ≡ vector_owned self.now) }
-        ensures borrowed { vector_owned self.now ≡ false → IsOk result }
+        ensures succeeds { vector_owned self.now ≡ false → IsOk result }
     {
         if self.is_owned() {
             let owned = VarZeroVecOwned::from_slice(alloc, self.as_slice())?;

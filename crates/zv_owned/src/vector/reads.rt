@@ -4,13 +4,12 @@ ghost use Rattle.std.specs.Prelude.{IfOk};
 ghost use Rattle.std.specs.List.{slice_get};
 ghost use Rattle.std.specs.Option.{option_map};
 ghost use Rattle.zv_ule.specs.Views.{element_of};
-ghost use Rattle.zv_var.specs.Format.{elements, list_fault};
+ghost use Rattle.zv_var.specs.Format.{list_fault};
 ghost use Rattle.zv_var.specs.Iters.{left_of};
 ghost use Rattle.zv_var.specs.Views.{bytes_of, list_of, parts_of};
 ghost use Rattle.zv_owned.specs.Size.{takes_insert, takes_pushes, takes_replace};
 
 use super::VarZeroVec;
-use crate::owned::VarZeroVecOwned;
 use crate::size::{takes_elements, takes_insert, takes_replace};
 use std::alloc::Global;
 use zv_ule::{NoMemory, VarBox, VarRef, VarZeroVecFormat, ZvKind};
@@ -97,7 +96,7 @@ impl<'a, T: ZvKind, F: VarZeroVecFormat> VarZeroVec<'a, T, F> {
     pub fn takes_insert(&self, len: usize) -> bool
         ensures { result ≡ takes_insert F.W (vector_list self.now) len }
     {
-        takes_insert(self.as_slice(), len)
+        takes_insert::<T, F, F>(self.as_slice(), len)
     }
 
     /// Whether the size rule of [`VarZeroVecOwned`] takes the list's elements one after another
@@ -106,7 +105,7 @@ impl<'a, T: ZvKind, F: VarZeroVecFormat> VarZeroVec<'a, T, F> {
     pub fn takes_elements(&self) -> bool
         ensures { result ≡ takes_pushes (takes_insert F.W) [] (vector_list self.now) }
     {
-        takes_elements(self.as_slice())
+        takes_elements::<T, F, F>(self.as_slice())
     }
 
     /// Whether the size rule of [`VarZeroVecOwned`] takes an element of `len` bytes in place of the
@@ -117,6 +116,6 @@ impl<'a, T: ZvKind, F: VarZeroVecFormat> VarZeroVec<'a, T, F> {
         ensures { result ≡ takes_replace F.W (vector_list self.now)
             (length (slice_index_or (vector_list self.now) index [])) len }
     {
-        takes_replace(self.as_slice(), index, len)
+        takes_replace::<T, F, F>(self.as_slice(), index, len)
     }
 }

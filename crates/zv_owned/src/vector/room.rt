@@ -1,6 +1,6 @@
 // The room of a list that is borrowed, or owns its bytes.
-ghost use Rattle.std.specs.Prelude.{◌≡◌, ◌==◌, ◌+◌, ◌*◌, ◌≤◌, [], None, Some, IsTrue, IfOk, OnOk};
-ghost use Rattle.std.specs.Prelude.{OnErr, IsOk, true, not};
+ghost use Rattle.std.specs.Prelude.{length, ◌≡◌, ◌==◌, ◌+◌, ◌*◌, ◌≤◌, [], None, Some, IsTrue, IfOk};
+ghost use Rattle.std.specs.Prelude.{OnOk, OnErr, IsOk, true, not};
 
 use super::VarZeroVec;
 use crate::owned::room_for;
@@ -33,10 +33,12 @@ impl<'a, T: ZvKind, F: VarZeroVecFormat> VarZeroVec<'a, T, F> {
         ensures bytes { vector_bytes self.new ≡ vector_bytes self.old }
         ensures owned { OnOk result (vector_owned self.new ≡ true) }
         ensures ok { OnOk result (n ≤ vector_spare self.new) }
+        // where it is refused
         ensures err { OnErr result (self.new ≡ self.old) }
-        ensures kept { vector_spare self.old ≤ vector_spare self.new }
-        ensures within { IsTrue (vector_owned self.old) → n ≤ vector_spare self.old →
+        ensures succeeds { IsTrue (vector_owned self.old) → n ≤ vector_spare self.old →
             IsOk result }
+        // what it takes
+        ensures keeps_room { vector_spare self.old ≤ vector_spare self.new }
     {
         self.slot.reserve(alloc, self.view, n)
     }
@@ -48,11 +50,14 @@ impl<'a, T: ZvKind, F: VarZeroVecFormat> VarZeroVec<'a, T, F> {
         ensures bytes { vector_bytes self.new ≡ vector_bytes self.old }
         ensures owned { OnOk result (vector_owned self.new ≡ true) }
         ensures ok { OnOk result (additional * (F.W + 4) ≤ vector_spare self.new) }
+        // where it is refused
         ensures err { OnErr result (self.new ≡ self.old) }
-        ensures kept { vector_spare self.old ≤ vector_spare self.new }
-        ensures within { IsTrue (vector_owned self.old) →
+        ensures succeeds { IsTrue (vector_owned self.old) →
             additional * (F.W + 4) ≤ vector_spare self.old → IsOk result }
+        // what it takes
+        ensures keeps_room { vector_spare self.old ≤ vector_spare self.new }
     {
+        // `spare` is called for its clause that the spare is below 2^64: so is what it covers.
         let _spare = self.spare();
         let n = room_for::<F>(additional)?;
         self.reserve_bytes(alloc, n)
@@ -67,9 +72,11 @@ impl<'a, T: ZvKind, F: VarZeroVecFormat> VarZeroVec<'a, T, F> {
         ensures list { vector_list self.new ≡ vector_list self.old }
         ensures bytes { vector_bytes self.new ≡ vector_bytes self.old }
         ensures owned { OnOk result (vector_owned self.new ≡ true) }
+        // where it is refused
         ensures err { OnErr result (self.new ≡ self.old) }
-        ensures kept { vector_spare self.old ≤ vector_spare self.new }
-        ensures free { IsTrue (vector_owned self.old) → IsOk result }
+        ensures succeeds { IsTrue (vector_owned self.old) → IsOk result }
+        // what it takes
+        ensures keeps_room { vector_spare self.old ≤ vector_spare self.new }
     {
         self.reserve_bytes(alloc, 0)
     }
@@ -81,8 +88,10 @@ impl<'a, T: ZvKind, F: VarZeroVecFormat> VarZeroVec<'a, T, F> {
         ensures list { IfOk result (λ v. vector_list v ≡ []) }
         ensures bytes { IfOk result (λ v. vector_bytes v ≡ []) }
         ensures owned { IfOk result (λ v. vector_owned v ≡ not (capacity == 0)) }
+        // where it is refused
+        ensures succeeds { capacity ≡ 0 → IsOk result }
+        // what it takes
         ensures spare { IfOk result (λ v. capacity * (F.W + 4) ≤ vector_spare v) }
-        ensures free { capacity ≡ 0 → IsOk result }
     {
         let mut list = VarZeroVec::new();
         if capacity > 0 {
@@ -98,7 +107,9 @@ impl<'a, T: ZvKind, F: VarZeroVecFormat> VarZeroVec<'a, T, F> {
         ensures list { vector_list self.new ≡ [] }
         ensures bytes { vector_bytes self.new ≡ [] }
         ensures owned { vector_owned self.new ≡ vector_owned self.old }
-        ensures spare { vector_spare self.old ≤ vector_spare self.new }
+        ensures keeps_room { vector_spare self.old ≤ vector_spare self.new }
+        ensures room { IsTrue (vector_owned self.old) →
+            length (vector_bytes self.old) + vector_spare self.old ≤ vector_spare self.new }
     {
         match self.slot.as_owned() {
             Some(owned) => owned.clear(),

@@ -50,8 +50,8 @@ impl<T: ZvKind, F: VarZeroVecFormat> Slot<T, F> {
     ) -> Result<VarZeroVecOwned<T, F>, NoMemory>
         ensures list { IfOk result (λ v. v.list ≡ list_in self (list_of list.entry)) }
         ensures bytes { IfOk result (λ v. v.bytes ≡ bytes_in self (bytes_of list.entry)) }
-        ensures kept { IfOk result (λ v. spare_in self ≤ v.spare) }
-        ensures free { is_some self ≡ true → IsOk result }
+        ensures keeps_room { IfOk result (λ v. spare_in self ≤ v.spare) }
+        ensures succeeds { is_some self ≡ true → IsOk result }
     {
         match self.owned {
             Some(owned) => Ok(owned),
@@ -73,9 +73,11 @@ impl<T: ZvKind, F: VarZeroVecFormat> Slot<T, F> {
             bytes_in self.old (bytes_of list.entry) }
         ensures owned { OnOk result (is_some self.new ≡ true) }
         ensures ok { OnOk result (n ≤ spare_in self.new) }
+        // where it is refused
         ensures err { OnErr result (self.new ≡ self.old) }
-        ensures kept { spare_in self.old ≤ spare_in self.new }
-        ensures within { is_some self.old ≡ true → n ≤ spare_in self.old → IsOk result }
+        ensures succeeds { is_some self.old ≡ true → n ≤ spare_in self.old → IsOk result }
+        // what it takes
+        ensures keeps_room { spare_in self.old ≤ spare_in self.new }
     {
         match self.as_owned() {
             Some(owned) => owned.reserve_bytes(n),
