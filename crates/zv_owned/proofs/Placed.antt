@@ -11,46 +11,31 @@ use Rattle.zv_owned.specs.Splices.{most_steps, new_elements}
 use Rattle.zv_owned.specs.declared.change.Change.{Change}
 use Rattle.zv_owned.specs.declared.change.Change.TheVariants.{Insert, Replace, Remove}
 
-insert_short : (w : ℕ) (xs : List (List ℕ)) (n : ℕ) → takes_insert w xs n ≡ true → n < max_of w
-insert_short w [] n taken = grind arith
-insert_short w (x ∷ xs) n taken = grind arith
-
 module _ {Q : Type 0} (f : Q → List ℕ) where
   -- It is a splice: n elements go, and what is written for v comes.
   pub record IsPlaced (c : Change Q) (xs : List (List ℕ)) (i n : ℕ) (v : Option (Bor Q)) : Type 0 where
     pub one : n ≤ 1
     pub inside : i + n ≤ length xs
-    pub brings : n ≡ 0 → v ≡ None → ⊥
+    pub brings : n ≡ 0 → new_bytes f v ≡ None → ⊥
     pub is : changed f c xs i ≡ splice xs i (i + n) (new_elements f v)
 
   pub placed : (c : Change Q) (xs : List (List ℕ)) (i n : ℕ) (v : Option (Bor Q)) → n ≡ gone_of c → v ≡ value_of c → HasPlace f c (length xs) i →
       IsPlaced c xs i n v
   placed (Insert a) xs i n v en ev h =
       let k : i + n ≡ i = omega arith in
-      record { one = omega arith; inside = omega arith; brings = λ z e. absurd cc; is = rw (k, ev) refl }
-  placed (Replace a) xs i n v en ev h = record {
-    one = omega arith;
-    inside = omega arith;
-    brings = λ z e. absurd (omega arith);
-    is = rw (en, ev) (sym (splice_set xs i (f a.now) h));
-  }
-  placed Remove xs i n v en ev h = record {
-    one = omega arith;
-    inside = omega arith;
-    brings = λ z e. absurd (omega arith);
-    is = rw (en, ev, add-one) refl;
-  }
+      record { one = omega arith; inside = omega arith; brings = λ z e. let none = rw ev at e in absurd cc; is = rw (k, ev) refl }
+  placed (Replace a) xs i n v en ev h =
+      record { one = omega arith; inside = omega arith; brings = λ z e. absurd (omega arith); is = rw (en, ev) (sym (splice_set xs i (f a.now) h)) }
+  placed Remove xs i n v en ev h =
+      record { one = omega arith; inside = omega arith; brings = λ z e. absurd (omega arith); is = rw (en, ev, add-one) refl }
 
   -- what comes, where the size rule takes it
   pub taken_short : (w : ℕ) (c : Change Q) (xs : List (List ℕ)) (i : ℕ) (v : Option (Bor Q)) → v ≡ value_of c → takes_change f w c xs i ≡ true →
       ForSome v (λ b. length (f b.now) < max_of w)
-  taken_short w (Insert a) xs i v ev taken = λ b e. let same : a ≡ b = cc in rw (← same) (insert_short w xs (length (f a.now)) taken)
+  taken_short w (Insert a) [] i v ev taken = λ b e. let same : a ≡ b = cc in rw (← same) (grind arith)
+  taken_short w (Insert a) (x ∷ xs) i v ev taken = λ b e. let same : a ≡ b = cc in rw (← same) (grind arith)
   taken_short w (Replace a) xs i v ev taken = λ b e. let same : a ≡ b = cc in rw (← same) (grind arith)
   taken_short w Remove xs i v ev taken = λ b e. absurd cc
-
-  pub short_bytes : (m : ℕ) (v : Option (Bor Q)) → ForSome v (λ b. length (f b.now) < m) → length (concat (new_elements f v)) ≤ m
-  short_bytes m None h = omega arith
-  short_bytes m (Some b) h = omega (arith, h b refl, length-append (f b.now) [])
 
   pub taken_codable : (w : ℕ) → 0 < w → 256 ^ w ≤ 2 ^ 32 → (c : Change Q) (xs : List (List ℕ)) (i : ℕ) → codable w xs ≡ true →
       HasPlace f c (length xs) i → takes_change f w c xs i ≡ true → codable w (changed f c xs i) ≡ true

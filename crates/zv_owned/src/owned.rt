@@ -1,6 +1,7 @@
 // A list in a format that owns its bytes.
 ghost use Rattle.std.specs.Prelude.{◌≡◌, ◌==◌, ◌<◌, [], length, slice_index_or, Option, None};
-ghost use Rattle.std.specs.Prelude.{IsTrue, IfOk, Some, ◌||◌, false, is_some, map};
+ghost use Rattle.std.specs.Prelude.{IsTrue, IfOk, Some, ◌||◌, false, is_some, map, ◌+◌, ◌^◌, ◌≤◌};
+ghost use Rattle.std.specs.Prelude.{IsOk, OnOk, OnErr, ◌*◌};
 ghost use Rattle.std.specs.List.{slice_get};
 ghost use Rattle.std.specs.Option.{option_map};
 ghost use Rattle.zv_ule.specs.Views.{element_of};
@@ -13,14 +14,12 @@ ghost use Rattle.zv_owned.specs.Size.{takes_insert, takes_replace};
 
 mod changes;
 mod counted;
-mod room;
 
 pub use crate::change::Change;
 use crate::error::VecError;
 use crate::shelf::Shelf;
 use crate::size::{takes_insert, takes_replace};
 use crate::vector::VarZeroVec;
-pub(crate) use room::room_for;
 use std::alloc::Global;
 use std::marker::{Model, PhantomData};
 use zv_ule::{EncodeAsVarULE, NoMemory, VarBox, VarRef, VarZeroVecFormat, ZvKind};
@@ -231,6 +230,69 @@ impl<T: ZvKind, F: VarZeroVecFormat> VarZeroVecOwned<T, F> {
         takes_replace::<T, F, F>(self.as_slice(), index, len)
     }
 
+    /// How many bytes the list can grow by without memory.
+    #[inline]
+    pub fn spare(&self) -> usize
+        ensures { result ≡ self.now.spare }
+    {
+        self.shelf.spare()
+    }
+
+    /// Makes room for `n` bytes more. After [`NoMemory`] the list is as it was.
+    #[inline]
+    pub fn reserve_bytes(&mut self, n: usize) -> Result<(), NoMemory>
+        ensures list { self.new.list ≡ self.old.list }
+        ensures bytes { self.new.bytes ≡ self.old.bytes }
+        ensures ok { OnOk result (n ≤ self.new.spare) }
+        // where it is refused
+        ensures err { OnErr result (self.new ≡ self.old) }
+        ensures succeeds { n ≤ self.old.spare → IsOk result }
+        ensures keeps_room { self.old.spare ≤ self.new.spare }
+    {
+        self.shelf.reserve(n)
+    }
+
+    /// Makes room for `additional` elements more, of four bytes each. After [`NoMemory`] the list
+    /// is as it was.
+    pub fn reserve(&mut self, additional: usize) -> Result<(), NoMemory>
+        ensures list { self.new.list ≡ self.old.list }
+        ensures bytes { self.new.bytes ≡ self.old.bytes }
+        ensures ok { OnOk result (additional * (F.W + 4) ≤ self.new.spare) }
+        // where it is refused
+        ensures err { OnErr result (self.new ≡ self.old) }
+        ensures succeeds { additional * (F.W + 4) ≤ self.old.spare → IsOk result }
+        ensures keeps_room { self.old.spare ≤ self.new.spare }
+    {
+        // `spare` is called for its clause that the spare is below 2^64: so is what it covers.
+        let _spare = self.spare();
+        let n = room_for::<F>(additional)?;
+        self.reserve_bytes(n)
+    }
+
+    /// The list of no elements, with room for `capacity` elements of four bytes each. It takes no
+    /// memory where `capacity` is 0.
+    pub fn with_capacity(alloc: Global, capacity: usize) -> Result<Self, NoMemory>
+        requires { IsTrue T.usable }
+        ensures list { IfOk result (λ v. v.list ≡ []) }
+        ensures bytes { IfOk result (λ v. v.bytes ≡ []) }
+        ensures spare { IfOk result (λ v. capacity * (F.W + 4) ≤ v.spare) }
+        ensures succeeds { capacity ≡ 0 → IsOk result }
+    {
+        let mut list = VarZeroVecOwned::new(alloc);
+        list.reserve(capacity)?;
+        Ok(list)
+    }
+
+    /// Takes out every element. It takes no memory, and keeps what it has.
+    #[inline]
+    pub fn clear(&mut self)
+        ensures list { self.new.list ≡ [] }
+        ensures bytes { self.new.bytes ≡ [] }
+        ensures keeps_room { length self.old.bytes + self.old.spare ≤ self.new.spare }
+    {
+        self.shelf.clear();
+    }
+
     /// The list's bytes, in the memory that they lie in.
     #[inline]
     pub fn into_bytes(self) -> Vec<u8>
@@ -249,4 +311,13 @@ impl<T: ZvKind, F: VarZeroVecFormat> VarZeroVecOwned<T, F> {
     {
         VarZeroVecOwned::from_slice(self.shelf.allocator(), self.as_slice())
     }
+}
+
+/// How many bytes so many elements of four bytes each take, with their fields.
+#[inline]
+pub(crate) fn room_for<F: VarZeroVecFormat>(count: usize) -> Result<usize, NoMemory>
+    ensures ok { IfOk result (λ n. n ≡ count * (F.W + 4)) }
+    ensures err { OnErr result (2 ^ 64 ≤ count * (F.W + 4)) }
+{
+    count.checked_mul(F::W + 4).ok_or(NoMemory)
 }

@@ -2,6 +2,7 @@
 ghost use Rattle.std.specs.Prelude.{◌≡◌, ℕ, ◌+◌, ◌-◌, ◌*◌, ◌^◌, ◌<◌, ◌≤◌, ◌++◌, List, Option, None};
 ghost use Rattle.std.specs.Prelude.{◌∷◌, [], length, true, IfSome, IfNone, IsOk, IsTrue, OnErr};
 ghost use Rattle.std.specs.Prelude.{OnOk};
+ghost use Rattle.std.specs.List.{concat};
 ghost use Rattle.std.specs.Option.{ForSome, option_map};
 ghost use Rattle.zv_var.specs.Format.{elements, enc, list_fault};
 ghost use Rattle.zv_var.specs.Laws.{AreValid};
@@ -52,8 +53,9 @@ pub(crate) fn splice<T: ZvKind, F: VarZeroVecFormat, Q: ZvArg<T>, L: Ledger>(
 #[inline]
 fn len_for<T: ZvKind, Q: ZvArg<T>>(value: Option<&Q>) -> Option<usize>
     requires usable { IsTrue T.usable }
-    requires below { ForSome value (λ v. length (Q.bytes v.now) < 2 ^ 64) }
+    requires short { ForSome value (λ v. length (Q.bytes v.now) < 2 ^ 32) }
     ensures len { result ≡ option_map (λ e. length e) (new_bytes Q.bytes value.entry) }
+    ensures short { length (concat (new_elements Q.bytes value.entry)) < 2 ^ 32 }
     ensures valid { AreValid T.fault (new_elements Q.bytes value.entry) }
 {
     match value {

@@ -3,8 +3,7 @@ ghost use Rattle.std.specs.Prelude.{IsOk, ◌≡◌, ◌∷◌, ◌++◌, ◌&&�
 ghost use Rattle.std.specs.Prelude.{set, slice_index_or, OnOk, OnErr, List, ◌-◌, true};
 ghost use Rattle.std.specs.List.{insert, remove};
 ghost use Rattle.zv_var.specs.Format.{enc};
-ghost use Rattle.zv_owned.specs.Changes.{HasPlace, IsBelow, OnMemory, changed, growth};
-ghost use Rattle.zv_owned.specs.Changes.{takes_change};
+ghost use Rattle.zv_owned.specs.Changes.{HasPlace, OnMemory, changed, growth, takes_change};
 ghost use Rattle.zv_owned.specs.Owned.{TooLargeUnless};
 ghost use Rattle.zv_owned.specs.Size.{takes_insert, takes_replace};
 
@@ -12,7 +11,7 @@ use super::VarZeroVecOwned;
 use crate::change::Change;
 use crate::encoded::Encoded;
 use crate::error::VecError;
-use crate::size::growth_of;
+use crate::size::{takes_insert, takes_replace};
 use crate::splice::splice;
 use std::marker::Brand;
 use std::sync::ledger::{Blank, Ledger};
@@ -76,35 +75,6 @@ impl<T: ZvKind, F: VarZeroVecFormat> VarZeroVecOwned<T, F> {
         self.make_from::<Q, Brand>(index, change, Blank::new(1))
     }
 
-    /// Makes a change, as [`splice_arg_counted`](Self::splice_arg_counted), uncounted.
-    #[inline]
-    pub(crate) fn splice_arg<Q: ZvArg<T>>(
-        &mut self,
-        index: usize,
-        change: Change<'_, Q>,
-    ) -> Result<(), VecError>
-        requires place { HasPlace Q.bytes change (length self.old.list) index }
-        requires below { IsBelow Q.bytes change }
-        ensures ok { OnOk result (self.new.list ≡
-            changed Q.bytes change.entry self.old.list index) }
-        ensures bytes { OnOk result (self.new.bytes ≡ enc F.W self.new.list) }
-        // where it is refused
-        ensures err { OnErr result (self.new ≡ self.old) }
-        ensures refused { TooLargeUnless
-            (takes_change Q.bytes F.W change.entry self.old.list index) result }
-        ensures succeeds { OnMemory result (length self.old.bytes + self.old.spare <
-            length (enc F.W (changed Q.bytes change.entry self.old.list index))) }
-        // what it takes
-        ensures keeps_room { OnOk result (self.old.spare ≤
-            self.new.spare + (length self.new.bytes - length self.old.bytes)) }
-    {
-        if growth_of(self.as_slice(), index, &change).is_none() {
-            return Err(VecError::TooLarge);
-        }
-        self.make(index, change)?;
-        Ok(())
-    }
-
     /// Puts what is written for a value before the element at a place, or at the end.
     ///
     /// # Errors
@@ -121,11 +91,14 @@ impl<T: ZvKind, F: VarZeroVecFormat> VarZeroVecOwned<T, F> {
             (length (Q.bytes value.now))) result }
         ensures succeeds { OnMemory result (length self.old.bytes + self.old.spare <
             length (enc F.W (insert self.old.list index (Q.bytes value.now)))) }
-        // what it takes
         ensures keeps_room { OnOk result (self.old.spare ≤
             self.new.spare + (length self.new.bytes - length self.old.bytes)) }
     {
-        self.splice_arg(index, Change::Insert(value))
+        if !takes_insert::<T, F, F>(self.as_slice(), value.arg_len()) {
+            return Err(VecError::TooLarge);
+        }
+        self.make(index, Change::Insert(value))?;
+        Ok(())
     }
 
     /// Puts what is written for a value in place of the element at a place.
@@ -145,11 +118,14 @@ impl<T: ZvKind, F: VarZeroVecFormat> VarZeroVecOwned<T, F> {
             (length (Q.bytes value.now))) result }
         ensures succeeds { OnMemory result (length self.old.bytes + self.old.spare <
             length (enc F.W (set self.old.list index (Q.bytes value.now)))) }
-        // what it takes
         ensures keeps_room { OnOk result (self.old.spare ≤
             self.new.spare + (length self.new.bytes - length self.old.bytes)) }
     {
-        self.splice_arg(index, Change::Replace(value))
+        if !takes_replace::<T, F, F>(self.as_slice(), index, value.arg_len()) {
+            return Err(VecError::TooLarge);
+        }
+        self.make(index, Change::Replace(value))?;
+        Ok(())
     }
 
     /// Puts what is written for a value before the element at a place, or at the end, in the room
@@ -216,7 +192,6 @@ impl<T: ZvKind, F: VarZeroVecFormat> VarZeroVecOwned<T, F> {
             (length (A.spelling element.now))) result }
         ensures succeeds { OnMemory result (length self.old.bytes + self.old.spare <
             length (enc F.W (insert self.old.list index (A.spelling element.now)))) }
-        // what it takes
         ensures keeps_room { OnOk result (self.old.spare ≤
             self.new.spare + (length self.new.bytes - length self.old.bytes)) }
     {
@@ -236,7 +211,6 @@ impl<T: ZvKind, F: VarZeroVecFormat> VarZeroVecOwned<T, F> {
             (length (A.spelling element.now))) result }
         ensures succeeds { OnMemory result (length self.old.bytes + self.old.spare <
             length (enc F.W (self.old.list ++ A.spelling element.now ∷ []))) }
-        // what it takes
         ensures keeps_room { OnOk result (self.old.spare ≤
             self.new.spare + (length self.new.bytes - length self.old.bytes)) }
     {
@@ -266,7 +240,6 @@ impl<T: ZvKind, F: VarZeroVecFormat> VarZeroVecOwned<T, F> {
             (length (A.spelling element.now))) result }
         ensures succeeds { OnMemory result (length self.old.bytes + self.old.spare <
             length (enc F.W (set self.old.list index (A.spelling element.now)))) }
-        // what it takes
         ensures keeps_room { OnOk result (self.old.spare ≤
             self.new.spare + (length self.new.bytes - length self.old.bytes)) }
     {

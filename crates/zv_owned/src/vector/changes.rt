@@ -1,9 +1,8 @@
 // Changes of a list that is borrowed, or owns its bytes.
 ghost use Rattle.std.specs.Prelude.{◌≡◌, ◌+◌, ◌^◌, ◌<◌, ◌≤◌, [], length, set, slice_index_or, None};
-ghost use Rattle.std.specs.Prelude.{Some, IsTrue, IfOk, OnOk, OnErr, IsOk, true};
+ghost use Rattle.std.specs.Prelude.{Some, IsTrue, OnOk, OnErr, IsOk, true};
 ghost use Rattle.std.specs.List.{insert, remove};
 ghost use Rattle.zv_var.specs.Format.{enc};
-ghost use Rattle.zv_var.specs.Views.{list_of};
 ghost use Rattle.zv_owned.specs.Changes.{HasPlace, IsBelow, OnMemory, changed, takes_change};
 ghost use Rattle.zv_owned.specs.Owned.{TooLargeUnless};
 ghost use Rattle.zv_owned.specs.Size.{takes_insert, takes_replace};
@@ -15,28 +14,6 @@ use crate::owned::VarZeroVecOwned;
 use crate::size::growth_of;
 use std::alloc::Global;
 use zv_ule::{NoMemory, VarZeroVecFormat, ZvArg, ZvKind};
-use zv_var::slice::VarZeroSlice;
-
-/// A copy of a list, with a change.
-fn changed_copy<T: ZvKind, F: VarZeroVecFormat, Q: ZvArg<T>>(
-    alloc: Global,
-    list: VarZeroSlice<'_, T, F>,
-    index: usize,
-    change: Change<'_, Q>,
-) -> Result<VarZeroVecOwned<T, F>, VecError>
-    requires place { HasPlace Q.bytes change (length (list_of list)) index }
-    requires below { IsBelow Q.bytes change }
-    ensures ok { IfOk result (λ v. v.list ≡
-        changed Q.bytes change.entry (list_of list.entry) index) }
-    ensures bytes { IfOk result (λ v. v.bytes ≡ enc F.W v.list) }
-    ensures refused { TooLargeUnless
-        (takes_change Q.bytes F.W change.entry (list_of list.entry) index) result }
-{
-    let more = growth_of(list, index, &change).ok_or(VecError::TooLarge)?;
-    let mut copy = VarZeroVecOwned::with_copy(alloc, list, more)?;
-    copy.make(index, change)?;
-    Ok(copy)
-}
 
 impl<'a, T: ZvKind, F: VarZeroVecFormat> VarZeroVec<'a, T, F> {
     ghost use Rattle.zv_owned.specs.Vectors.{vector_bytes, vector_list, vector_owned, vector_spare};
@@ -65,14 +42,16 @@ impl<'a, T: ZvKind, F: VarZeroVecFormat> VarZeroVec<'a, T, F> {
             (length (vector_bytes self.old) + vector_spare self.old <
             length (enc F.W (changed Q.bytes change.entry (vector_list self.old) index))) }
     {
+        let more = growth_of(self.as_slice(), index, &change).ok_or(VecError::TooLarge)?;
         match self.slot.as_owned() {
-            Some(owned) => owned.splice_arg(index, change),
+            Some(owned) => owned.make(index, change)?,
             None => {
-                let changed = changed_copy(alloc, self.view, index, change)?;
-                self.slot.owned = Some(changed);
-                Ok(())
+                let mut copy = VarZeroVecOwned::with_copy(alloc, self.view, more)?;
+                copy.make(index, change)?;
+                self.slot.owned = Some(copy);
             }
         }
+        Ok(())
     }
 
     /// Puts what is written for a value before the element at a place, or at the end. The list is

@@ -76,7 +76,6 @@ impl<T: ZvKind, F: VarZeroVecFormat> Slot<T, F> {
         // where it is refused
         ensures err { OnErr result (self.new ≡ self.old) }
         ensures succeeds { is_some self.old ≡ true → n ≤ spare_in self.old → IsOk result }
-        // what it takes
         ensures keeps_room { spare_in self.old ≤ spare_in self.new }
     {
         match self.as_owned() {

@@ -12,30 +12,23 @@ is g c =
 
 pub overflow_mul-own : goal.overflow_mul-own
 overflow_mul-own g c =
-    let s = is g (goal.at.overflow_mul-own g c).After-W in
-    rw (c.W.ensures, c.requires.count) (search (rules, s.inside, c.args.list.short))
+    rw (c.W.ensures, c.requires.count) (search (rules, (is g (goal.at.overflow_mul-own g c).After-W).inside, c.args.list.short))
 
 pub overflow_mul-other : goal.overflow_mul-other
-overflow_mul-other g c =
-    let s = is g (goal.at.overflow_mul-other g c).After-W in
-    rw (c.W-2.ensures, c.requires.count) (omega (arith, s.few))
+overflow_mul-other g c = rw (c.W-2.ensures, c.requires.count) (omega (arith, (is g (goal.at.overflow_mul-other g c).After-W).few))
 
 pub overflow_sub-result : goal.overflow_sub-result
 overflow_sub-result g c =
-    let s = is g (goal.at.overflow_sub-result g c).After-W in
-    rw (c.W.ensures, c.requires.count) (omega (arith, s.inside, ap length c.as_bytes.ensures.bytes))
+    rw (c.W.ensures, c.requires.count) (omega (arith, (is g (goal.at.overflow_sub-result g c).After-W).inside, ap length c.as_bytes.ensures.bytes))
 
 pub overflow_add-result : goal.overflow_add-result
-overflow_add-result g c =
-    let s = is g (goal.at.overflow_add-result g c).After-W in
-    rw (c.W.ensures, c.W-2.ensures, c.requires.count) (omega (arith, s.few, ap length c.as_bytes.ensures.bytes, c.args.list.short))
+overflow_add-result g c = rw (c.W.ensures, c.W-2.ensures, c.requires.count)
+    (omega (arith, (is g (goal.at.overflow_add-result g c).After-W).few, ap length c.as_bytes.ensures.bytes, c.args.list.short))
 
 pub returns-clause-is : goal.returns-clause-is
-returns-clause-is g c =
-    let s = is g (goal.at.returns-clause-is g c).After-W in
-    rw (c.W.ensures, c.W-2.ensures, c.requires.count) (omega (arith, s.is, ap length c.as_bytes.ensures.bytes))
+returns-clause-is g c = rw (c.W.ensures, c.W-2.ensures, c.requires.count)
+    (omega (arith, (is g (goal.at.returns-clause-is g c).After-W).is, ap length c.as_bytes.ensures.bytes))
 
 pub returns-clause-small : goal.returns-clause-small
-returns-clause-small g c =
-    let s = is g (goal.at.returns-clause-small g c).After-W in
-    rw (c.W.ensures, c.W-2.ensures, c.requires.count) (omega (arith, s.few, ap length c.as_bytes.ensures.bytes, c.args.list.short))
+returns-clause-small g c = rw (c.W.ensures, c.W-2.ensures, c.requires.count)
+    (omega (arith, (is g (goal.at.returns-clause-small g c).After-W).few, ap length c.as_bytes.ensures.bytes, c.args.list.short))

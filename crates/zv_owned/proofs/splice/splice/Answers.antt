@@ -4,7 +4,7 @@ use Rattle.zv_owned.proofs.Common.{option_to_list, refl, sym, take, true, ℕ}
 use Rattle.std.proofs.Common.{Result, Ok, Err, OnErr}
 use Rattle.zv_var.proofs.Encoding.{codable_from_Part}
 use Rattle.zv_var.proofs.Read.{valid_from_fault}
-use Rattle.zv_owned.proofs.Placed.{IsPlaced, placed, short_bytes, size_changed, steps_of, taken_codable, taken_short}
+use Rattle.zv_owned.proofs.Placed.{IsPlaced, placed, size_changed, steps_of, taken_codable, taken_short}
 use Rattle.zv_owned.proofs.SizeRule.{Made, in_parts, made, replaced_length, size_within, splice_valid}
 use Rattle.zv_owned.proofs.Spliced.{IsSplice, begin_within, can_edit, encoded, grown, nothing_kept, spliced, steps_within}
 use Rattle.zv_owned.specs.Changes.{changed, growth}
@@ -42,12 +42,6 @@ module _ (g : _) (c : After-len_for g) where
 
   place : IsPlaced g.Q.ZvArg.bytes c.args.change list c.args.index c.gone.result c.value-value.result
   place = placed g.Q.ZvArg.bytes c.args.change list c.args.index _ _ c.gone.ensures c.value-value.ensures c.requires.place
-
-  something : c.gone.result ≡ 0 → new ≡ None → ⊥
-  something z e = place.brings z (no_value c.value-value.result e) where
-    no_value : (v : _) → new_bytes g.Q.ZvArg.bytes v ≡ None → v ≡ None
-    no_value None e = refl
-    no_value (Some v) e = absurd cc
 
   can : codable w after ≡ true
   can = taken_codable g.Q.ZvArg.bytes w g.F.VarZeroVecFormat.width_positive g.F.VarZeroVecFormat.field_small c.args.change list c.args.index
@@ -89,11 +83,8 @@ begins g c none =
     let p = place g c in
     p.is ∙ nothing_kept (list g c) c.args.index c.gone.result (option_to_list (new g c)) p.inside (rw (same g c) at none)
 
-pub edit_for-requires-clause-one : goal.edit_for-requires-clause-one
-edit_for-requires-clause-one g c = (place g (goal.at.edit_for-requires-clause-one g c).After-len_for).one
-
-pub len_for-requires-clause-below : goal.len_for-requires-clause-below
-len_for-requires-clause-below g c = λ v e. omega (
+pub len_for-requires-clause-short : goal.len_for-requires-clause-short
+len_for-requires-clause-short g c = λ v e. omega (
   arith,
   taken_short g.Q.ZvArg.bytes g.F.VarZeroVecFormat.W c.args.change _ c.args.index _ c.value-value.ensures c.requires.fits v e,
   g.F.VarZeroVecFormat.field_small,
@@ -106,10 +97,8 @@ begin-requires-clause-short g c =
 pub edit_bytes-requires-clause-can : goal.edit_bytes-requires-clause-can
 edit_bytes-requires-clause-can g c =
     let s = is_splice g (goal.at.edit_bytes-requires-clause-can g c).After-len_for c.in-Some.edit c.in-Some.ensures.edit in
-    let short = taken_short g.Q.ZvArg.bytes g.F.VarZeroVecFormat.W c.args.change _ c.args.index _ c.value-value.ensures c.requires.fits in
-    let small = short_bytes g.Q.ZvArg.bytes _ c.value-value.result short in
     can_edit s (omega (arith, c.of_valid-list.result.short, ap length (c.of_valid-list.ensures.bytes ∙ c.bytes.ensures)))
-    (omega (arith, s.edit.counts.into, small, g.F.VarZeroVecFormat.field_small))
+    (omega (arith, s.edit.counts.into, c.len_for.ensures.short))
 
 pub returns-in_err-edit_bytes-in-Some-clause-succeeds : goal.returns-in_err-edit_bytes-in-Some-clause-succeeds
 returns-in_err-edit_bytes-in-Some-clause-succeeds g c =
@@ -153,7 +142,7 @@ returns-in_ok-edit_bytes-in-Some-clause-done g c =
       keeps_room = c.in_ok-edit_bytes-in-Some.ensures.keeps_room;
       grown = omega (arith, ap length is, grows g at);
       steps = steps_of g.Q.ZvArg.bytes (w g at) c.args.change l c.args.index _ _ _ c.args.steps.now _ c.gone.ensures c.value-value.ensures
-          (steps_within s (length l) c.args.index c.gone.result _ c.args.steps.now (ap length (sym parts)) (sym i) (sym j) (something g at)
+          (steps_within s (length l) c.args.index c.gone.result _ c.args.steps.now (ap length (sym parts)) (sym i) (sym j) (place g at).brings
           c.in_ok-edit_bytes-in-Some.ensures.steps)
           (λ e is one same.
           let some : length (option_to_list (new g at)) ≡ 1 = rw is refl in
