@@ -1,6 +1,6 @@
 -- A change of a list at a place that the list has.
-use Rattle.zv_owned.proofs.Common.{[], ◌+◌, ◌<◌, ◌^◌, ◌∷◌, ◌≡◌, ◌≤◌, List, None, Option, Some, add-one, ap, arith, codable, concat, length, length-append}
-use Rattle.zv_owned.proofs.Common.{max_of, new_bytes, option_map, refl, size, slice_index_or, splice, sym, takes_insert, true, ℕ}
+use Rattle.zv_owned.proofs.Common.{[], ◌+◌, ◌<◌, ◌^◌, ◌∷◌, ◌≡◌, ◌≤◌, List, None, Option, Some, add-one, ap, arith, codable, length}
+use Rattle.zv_owned.proofs.Common.{max_of, new_bytes, option_map, refl, size, slice_index_or, splice, sym, true, ℕ}
 use Rattle.std.proofs.Common.{Bor}
 use Rattle.std.specs.Option.{ForSome}
 use Rattle.zv_owned.proofs.Codable.{insert_codable, remove_codable, replace_codable, size_set}

@@ -1,8 +1,8 @@
 -- What the code asks of a list's size, and what a change that it takes leaves.
-use Rattle.zv_owned.proofs.Common.{[], ◌*◌, ◌++◌, ◌+◌, ◌-◌, ◌<◌, ◌^◌, ◌∷◌, ◌≡◌, ◌≤◌, All-from_recursion, AreValid, List, None, Option, Part, Some, add-one, ap}
+use Rattle.zv_owned.proofs.Common.{[], ◌*◌, ◌++◌, ◌+◌, ◌-◌, ◌<◌, ◌^◌, ◌∷◌, ◌≡◌, ◌≤◌, All-from_recursion, AreValid, List, None, Option, Part, add-one, ap}
 use Rattle.zv_owned.proofs.Common.{append-nil, arith, codable, concat, concat-append, drop, drop-drop, elements, enc, get_or, length, length-append}
-use Rattle.zv_owned.proofs.Common.{refl, set, size, slice_index_or, splice, suc, sym, take, take-append-drop, true}
-use Rattle.zv_owned.proofs.Common.{zero, ℕ}
+use Rattle.zv_owned.proofs.Common.{refl, set, size, slice_index_or, splice, sym, take, take-append-drop, true}
+use Rattle.zv_owned.proofs.Common.{ℕ}
 use Rattle.std.proofs.Math.Nat.{mul-le-mul_right}
 use Rattle.std.proofs.lemmas.Grind.{pieces}
 use Rattle.std.proofs.lemmas.List.{drop_more, set_split, take_more}

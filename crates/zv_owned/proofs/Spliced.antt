@@ -1,9 +1,9 @@
 -- A change of the bytes of a list leaves the encoding of the changed list.
 use Rattle.zv_owned.proofs.Common.{[], ◌*◌, ◌++◌, ◌+◌, ◌-◌, ◌<◌, ◌^◌, ◌∙◌, ◌∷◌, ◌≡◌, ◌≤◌, AllByRecursion, CanShift, Edit, IsEdit, List, None, Option, Part}
 use Rattle.zv_owned.proofs.Common.{Some, ap, append-nil, append_assoc, arith, codable, concat, concat-append, count_after, enc, flat_map, flat_map-append}
-use Rattle.zv_owned.proofs.Common.{from_codable, le, length, length-append, length-le, length-map, length-starts_from, map, max, max_of, mul-add, size}
-use Rattle.zv_owned.proofs.Common.{new_bytes, option_map, option_to_list, refl, shifted, splice, starts, suc, sym, true, zero, ℕ}
-use Rattle.std.proofs.Common.{◌≢◌, Bor}
+use Rattle.zv_owned.proofs.Common.{from_codable, le, length, length-append, length-le, length-map, length-starts_from, map, max, mul-add, size}
+use Rattle.zv_owned.proofs.Common.{option_map, option_to_list, refl, shifted, splice, starts, sym, true, ℕ}
+use Rattle.std.proofs.Common.{◌≢◌}
 use Rattle.std.proofs.Math.Nat.{mul-le-mul_left}
 use Rattle.std.proofs.lemmas.List.{drop_all}
 use Rattle.std.specs.Option.{ForSome}

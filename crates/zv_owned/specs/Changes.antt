@@ -1,6 +1,6 @@
 -- Changes of a list at a place. f is what is written for a value, and w is the width of a field in
 -- bytes.
-use Rattle.std.specs.Prelude.{◌≡◌, ⊤, ℕ, ◌+◌, ◌-◌, ◌^◌, ◌<◌, ◌≤◌, ◌==◌, Bool, true, List, []}
+use Rattle.std.specs.Prelude.{◌≡◌, ⊤, ℕ, ◌+◌, ◌^◌, ◌<◌, ◌≤◌, ◌==◌, Bool, true, List, []}
 use Rattle.std.specs.Prelude.{length, set, slice_index_or, if◌then◌else◌, Option, Some, None}
 use Rattle.std.specs.Prelude.{Result, Ok, Err}
 use Rattle.std.specs.Borrow.{Bor}
@@ -79,9 +79,9 @@ module _ {A : Type 0} (f : A → List ℕ) where
       else most_steps w (length xs) long i 1 (Some (length (f a.now)))
   change_steps w Remove xs long i = most_steps w (length xs) long i 1 None
 
--- A change of the list xs at place i is made. The old bytes had a spare, and the new ones have one;
--- t is how many steps there were before, and u how many there are.
-pub record IsMade {A : Type 0} (f : A → List ℕ) (w : ℕ) (K : List ℕ → Option UleError)
+-- The list xs was changed at place i. The old bytes had a spare, and the new ones have one; t is
+-- how many steps there were before, and u how many there are.
+pub record IsChanged {A : Type 0} (f : A → List ℕ) (w : ℕ) (K : List ℕ → Option UleError)
     (c : Change A) (xs : List (List ℕ)) (i : ℕ) (old : List ℕ) (old_spare : ℕ) (bytes : List ℕ)
     (spare t u : ℕ) : Type 0 where
   pub is : bytes ≡ enc w (changed f c xs i)

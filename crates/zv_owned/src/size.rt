@@ -19,7 +19,7 @@ fn most<F: VarZeroVecFormat>() -> usize
     F::MAX
 }
 
-/// How many bytes a list of `count` elements in one format is written as in another. There is one.
+/// How many bytes a list in one format, of `count` elements, is written as in another.
 #[inline]
 fn size_of<T: ZvKind, F: VarZeroVecFormat, G: VarZeroVecFormat>(
     list: VarZeroSlice<'_, T, F>,

@@ -7,7 +7,7 @@ ghost use Rattle.std.specs.Option.{ForSome, option_map};
 ghost use Rattle.zv_var.specs.Format.{elements, enc, list_fault};
 ghost use Rattle.zv_var.specs.Laws.{AreValid};
 ghost use Rattle.zv_var.specs.Views.{list_of};
-ghost use Rattle.zv_owned.specs.Changes.{HasPlace, IsMade, changed, growth, takes_change};
+ghost use Rattle.zv_owned.specs.Changes.{HasPlace, IsChanged, changed, growth, takes_change};
 ghost use Rattle.zv_owned.specs.Size.{max_of};
 ghost use Rattle.zv_owned.specs.Splices.{IsEdit, begin_steps, new_bytes, new_elements};
 
@@ -31,7 +31,7 @@ pub(crate) fn splice<T: ZvKind, F: VarZeroVecFormat, Q: ZvArg<T>, L: Ledger>(
     requires spells { list_fault F.W T.fault shelf.old.bytes ≡ None }
     requires place { HasPlace Q.bytes change (length (elements F.W shelf.old.bytes)) index }
     requires fits { takes_change Q.bytes F.W change (elements F.W shelf.old.bytes) index ≡ true }
-    ensures done { OnOk result (IsMade Q.bytes F.W T.fault change.entry
+    ensures done { OnOk result (IsChanged Q.bytes F.W T.fault change.entry
         (elements F.W shelf.old.bytes) index shelf.old.bytes shelf.old.spare
         shelf.new.bytes shelf.new.spare steps.old steps.new) }
     // where it is refused

@@ -1,4 +1,4 @@
-use Rattle.zv_owned.proofs.Common.{[], ◌++◌, ◌+◌, ◌<◌, ◌∙◌, ◌≡◌, ◌≤◌, AreValid, Edit, IsEdit, List, None, Option, Part, Part_from_fault, Some, ap, arith}
+use Rattle.zv_owned.proofs.Common.{[], ◌++◌, ◌+◌, ◌<◌, ◌∙◌, ◌≡◌, ◌≤◌, AreValid, Edit, IsEdit, List, Option, Part, Part_from_fault, Some, ap, arith}
 use Rattle.zv_owned.proofs.Common.{codable, concat, drop, elements, enc, length, length-append, length-drop, length-take-le, new_bytes, option_map}
 use Rattle.zv_owned.proofs.Common.{option_to_list, refl, sym, take, true, ℕ}
 use Rattle.std.proofs.Common.{Result, Ok, Err, OnErr}
