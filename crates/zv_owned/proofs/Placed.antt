@@ -1,7 +1,8 @@
 -- A change of a list at a place that the list has.
 use Rattle.zv_owned.proofs.Common.{[], ◌+◌, ◌<◌, ◌^◌, ◌∷◌, ◌≡◌, ◌≤◌, List, None, Option, Some, add-one, ap, arith, codable, length}
-use Rattle.zv_owned.proofs.Common.{max_of, new_bytes, option_map, refl, size, slice_index_or, splice, sym, true, ℕ}
+use Rattle.zv_owned.proofs.Common.{append-nil, max_of, new_bytes, option_map, refl, size, slice_index_or, splice, sym, true, ℕ}
 use Rattle.std.proofs.Common.{Bor}
+use Rattle.std.proofs.lemmas.List.{drop_all}
 use Rattle.std.specs.Option.{ForSome}
 use Rattle.zv_owned.proofs.Codable.{insert_codable, remove_codable, replace_codable, size_set}
 use Rattle.zv_owned.proofs.SizeRule.{size_splice, splice_set}
@@ -10,6 +11,12 @@ use Rattle.zv_owned.specs.Changes.{HasPlace, change_steps, changed, gone_of, gro
 use Rattle.zv_owned.specs.Splices.{most_steps, new_elements}
 use Rattle.zv_owned.specs.declared.change.Change.{Change}
 use Rattle.zv_owned.specs.declared.change.Change.TheVariants.{Insert, Replace, Remove}
+
+-- where a splice takes all elements, what comes is the list
+pub nothing_kept : (xs : List (List ℕ)) (i j : ℕ) (es : List (List ℕ)) → i + j ≤ length xs → length xs ≡ j → splice xs i (i + j) es ≡ es
+nothing_kept xs i j es inside e =
+    let k : i ≡ 0 = omega arith in
+    rw (k, drop_all (0 + j) xs (omega arith)) (append-nil es)
 
 module _ {Q : Type 0} (f : Q → List ℕ) where
   -- It is a splice: n elements go, and what is written for v comes.
@@ -65,3 +72,5 @@ module _ {Q : Type 0} (f : Q → List ℕ) where
       let still = in_place (f a.now) (rw ev refl) en in
       grind arith
   steps_of w Remove xs i long n t u v en ev most in_place = rw (en, ev) at most
+
+pub ruleset splicing = (placed, taken_short, nothing_kept)

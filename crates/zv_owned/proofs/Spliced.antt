@@ -1,11 +1,10 @@
 -- A change of the bytes of a list leaves the encoding of the changed list.
 use Rattle.zv_owned.proofs.Common.{[], ◌*◌, ◌++◌, ◌+◌, ◌-◌, ◌<◌, ◌^◌, ◌∙◌, ◌∷◌, ◌≡◌, ◌≤◌, AllByRecursion, CanShift, Edit, IsEdit, List, None, Option, Part}
-use Rattle.zv_owned.proofs.Common.{Some, ap, append-nil, append_assoc, arith, codable, concat, concat-append, count_after, enc, flat_map, flat_map-append}
+use Rattle.zv_owned.proofs.Common.{Some, ap, append_assoc, arith, codable, concat, concat-append, count_after, enc, flat_map, flat_map-append}
 use Rattle.zv_owned.proofs.Common.{from_codable, le, length, length-append, length-le, length-map, length-starts_from, map, max, mul-add, size}
-use Rattle.zv_owned.proofs.Common.{option_map, option_to_list, refl, shifted, splice, starts, sym, true, ℕ}
+use Rattle.zv_owned.proofs.Common.{option_map, option_to_list, refl, shifted, starts, sym, true, ℕ}
 use Rattle.std.proofs.Common.{◌≢◌}
 use Rattle.std.proofs.Math.Nat.{mul-le-mul_left}
-use Rattle.std.proofs.lemmas.List.{drop_all}
 use Rattle.std.specs.Option.{ForSome}
 use Rattle.zv_owned.proofs.Sizes.{size_of}
 use Rattle.zv_owned.specs.Splices.{CanEdit, Edits, begin_steps, most_steps}
@@ -130,8 +129,3 @@ encoded w b (x ∷ xs) p h = p.1
 pub begin_within : (w n long i j : ℕ) (o : Option ℕ) → begin_steps w o ≤ most_steps w n long i j o
 begin_within w n long i j None = omega arith
 begin_within w n long i j (Some x) = omega arith
-
-pub nothing_kept : (xs : List (List ℕ)) (i j : ℕ) (es : List (List ℕ)) → i + j ≤ length xs → length xs ≡ j → splice xs i (i + j) es ≡ es
-nothing_kept xs i j es inside e =
-    let k : i ≡ 0 = omega arith in
-    rw (k, drop_all (0 + j) xs (omega arith)) (append-nil es)

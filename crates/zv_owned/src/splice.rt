@@ -20,7 +20,7 @@ use zv_var::slice::VarZeroSlice;
 
 /// Makes a change at a place that the size rule takes. The bytes are then the encoding of the
 /// changed list, whatever they were before.
-#[tactic(auto, using(crate::proofs::Placed::placed))]
+#[tactic(auto, using(crate::proofs::Placed::splicing))]
 pub(crate) fn splice<T: ZvKind, F: VarZeroVecFormat, Q: ZvArg<T>, L: Ledger>(
     shelf: &mut Shelf,
     index: usize,

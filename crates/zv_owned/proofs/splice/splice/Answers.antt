@@ -4,9 +4,9 @@ use Rattle.zv_owned.proofs.Common.{option_to_list, refl, sym, take, true, ℕ}
 use Rattle.std.proofs.Common.{Result, Ok, Err, OnErr}
 use Rattle.zv_var.proofs.Encoding.{codable_from_Part}
 use Rattle.zv_var.proofs.Read.{valid_from_fault}
-use Rattle.zv_owned.proofs.Placed.{IsPlaced, placed, size_changed, steps_of, taken_codable, taken_short}
+use Rattle.zv_owned.proofs.Placed.{IsPlaced, nothing_kept, placed, size_changed, steps_of, taken_codable}
 use Rattle.zv_owned.proofs.SizeRule.{Made, in_parts, made, replaced_length, size_within, splice_valid}
-use Rattle.zv_owned.proofs.Spliced.{IsSplice, begin_within, can_edit, encoded, grown, nothing_kept, spliced, steps_within}
+use Rattle.zv_owned.proofs.Spliced.{IsSplice, begin_within, can_edit, encoded, grown, spliced, steps_within}
 use Rattle.zv_owned.specs.Changes.{changed, growth}
 use Rattle.zv_owned.proofs.splice.splice.Goals.{After-len_for}
 use Rattle.zv_owned.proofs.splice.splice.Goals as goal
@@ -83,17 +83,6 @@ begins g c none =
     let p = place g c in
     p.is ∙ nothing_kept (list g c) c.args.index c.gone.result (option_to_list (new g c)) p.inside (rw (same g c) at none)
 
-pub len_for-requires-clause-short : goal.len_for-requires-clause-short
-len_for-requires-clause-short g c = λ v e. omega (
-  arith,
-  taken_short g.Q.ZvArg.bytes g.F.VarZeroVecFormat.W c.args.change _ c.args.index _ c.value-value.ensures c.requires.fits v e,
-  g.F.VarZeroVecFormat.field_small,
-)
-
-pub begin-requires-clause-short : goal.begin-requires-clause-short
-begin-requires-clause-short g c =
-    taken_short g.Q.ZvArg.bytes g.F.VarZeroVecFormat.W c.args.change _ c.args.index _ c.value-value.ensures c.requires.fits
-
 pub edit_bytes-requires-clause-can : goal.edit_bytes-requires-clause-can
 edit_bytes-requires-clause-can g c =
     let s = is_splice g (goal.at.edit_bytes-requires-clause-can g c).After-len_for c.in-Some.edit c.in-Some.ensures.edit in
@@ -112,11 +101,6 @@ returns-in_err-edit_bytes-in-Some-clause-reserved g c = λ enough.
     let long : length (enc (w g at) (after g at)) ≤ length (bytes g at) + growth g.Q.ZvArg.bytes (w g at) c.args.change = grows g at in
     let s = is_splice g at c.in-Some.edit c.in-Some.ensures.edit in
     absurd (omega (arith, grown s, rw (place g at).is at long, c.in_err-edit_bytes-in-Some.ensures.succeeds))
-
-pub returns-in_err-begin-in-None-clause-succeeds : goal.returns-in_err-begin-in-None-clause-succeeds
-returns-in_err-begin-in-None-clause-succeeds g c =
-    let at = (goal.at.returns-in_err-begin-in-None-clause-succeeds g c).After-len_for in
-    on_err c.from_residual-in_err-begin-in-None.result (rw (begins g at c.in-None.ensures.none) c.in_err-begin-in-None.ensures.succeeds)
 
 pub returns-in_err-begin-in-None-clause-reserved : goal.returns-in_err-begin-in-None-clause-reserved
 returns-in_err-begin-in-None-clause-reserved g c = λ enough.
