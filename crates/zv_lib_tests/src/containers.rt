@@ -4,7 +4,7 @@ use std::cmp::Ordering;
 use std::process::Abort;
 use std::test::Fail;
 use zv_map::{
-    Form, KvSlice, MutableZeroVecLike, ZeroMapKV, ZeroVecLike, ZeroVecSearch, ZeroVecSearchBy,
+    Layout, KvSlice, MutableZeroVecLike, ZeroMapKV, ZeroVecLike, ZeroVecSearch, ZeroVecSearchBy,
     ZvContainer,
 };
 use zv_ule::{SliceULE, StrULE, VarBox, ZvKind};
@@ -76,7 +76,7 @@ fn changes_numbers<'a, C: MutableZeroVecLike<'a, u16, OwnedType = u16>>(
 
 // A view of the numbers 0, 1, 5 and 7.
 fn shows_numbers(rt: &impl Abort, view: KvSlice<'_, u16>) {
-    assert!(rt; view.form() == Form::Fixed(2));
+    assert!(rt; view.layout() == Layout::Fixed(2));
     let Some(element) = view.get(2) else {
         panic!(rt; "there are four elements");
     };

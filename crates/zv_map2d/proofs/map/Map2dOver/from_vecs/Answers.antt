@@ -1,6 +1,6 @@
 use Rattle.zv_map2d.proofs.Common.{sym}
 use Rattle.zv_map2d.proofs.Parsed.{held_lists}
-use Rattle.zv_map2d.proofs.map.Map2dOver.parse_parts.Goals as goal
+use Rattle.zv_map2d.proofs.map.Map2dOver.from_vecs.Goals as goal
 
 pub invariant_of-result : goal.invariant_of-result
 invariant_of-result g c =
