@@ -1,4 +1,4 @@
-//! Tests of lists of either form at concrete kinds.
+//! Tests of lists of either form, of their changes and of vectors, at concrete kinds.
 #![tactic(auto)]
 
 #[cfg(test)]
@@ -11,3 +11,7 @@ mod formats;
 mod lists;
 #[cfg(test)]
 mod nested;
+#[cfg(test)]
+mod splices;
+#[cfg(test)]
+mod vectors;

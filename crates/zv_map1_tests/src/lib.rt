@@ -1,0 +1,11 @@
+//! Tests of maps in one level at concrete kinds.
+#![tactic(auto)]
+
+#[cfg(test)]
+mod casts;
+#[cfg(test)]
+mod defaults;
+#[cfg(test)]
+mod many;
+#[cfg(test)]
+mod one_level;
