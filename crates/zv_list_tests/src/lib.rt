@@ -2,6 +2,8 @@
 #![tactic(auto)]
 
 #[cfg(test)]
+mod components;
+#[cfg(test)]
 mod defaults;
 #[cfg(test)]
 mod fixed;
@@ -11,6 +13,12 @@ mod formats;
 mod lists;
 #[cfg(test)]
 mod nested;
+#[cfg(test)]
+mod removals;
+#[cfg(test)]
+mod serialized;
+#[cfg(test)]
+mod shelves;
 #[cfg(test)]
 mod splices;
 #[cfg(test)]

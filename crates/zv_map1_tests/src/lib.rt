@@ -4,6 +4,8 @@
 #[cfg(test)]
 mod casts;
 #[cfg(test)]
+mod copied;
+#[cfg(test)]
 mod defaults;
 #[cfg(test)]
 mod many;
