@@ -4,6 +4,8 @@
 #[cfg(test)]
 mod defaults;
 #[cfg(test)]
+mod images;
+#[cfg(test)]
 mod look_ups;
 #[cfg(test)]
 mod maps;
