@@ -1,4 +1,4 @@
-/* Prints digests by xxHash's own library: of the pattern that zv_lib_tests hashes (crates/zv_lib_tests/src/digests.rt),
+/* Prints digests by xxHash's own library: of the pattern that zv_hash_tests hashes (crates/zv_hash_tests/src/digests.rt),
    one row for each seed and length, and of each text that is given (seed 0).
 
        cc bench/digest_values.c -lxxhash -o digest_values && ./digest_values [TEXT..]

@@ -2,6 +2,7 @@
 #![tactic(auto)]
 
 pub mod codes;
+pub mod images;
 pub mod names;
 pub mod regions;
 pub mod scores;

@@ -4,6 +4,7 @@ ghost use Rattle.std.specs.Prelude.{IfOk, IfSome, Some, is_some, option_map};
 ghost use Rattle.std.specs.Result.{result_err};
 ghost use Rattle.zv_fixed.specs.Views.{bytes_of as displacement_bytes, values_in};
 ghost use Rattle.zv_map.specs.Iters.{elements_left, left_of};
+ghost use Rattle.zv_map.specs.Vectors.{fixed_vector, vector_of};
 ghost use Rattle.zv_map.specs.Views.{bytes_of, list_of};
 ghost use Rattle.zv_ule.specs.Views.{element_of};
 ghost use Rattle.zv_hashmap.specs.Hashed.{key_hash};
@@ -42,6 +43,7 @@ pub type ZeroHashMap<'a, K, V> = HashMapOver<
 
 impl<'a, K: HashBytes, V: ZvKind, C: ZvContainer<K>, D: ZvContainer<V>> Model
     for HashMapOver<'a, K, V, C, D> {
+    ghost use Rattle.zv_map.specs.Vectors.{fixed_vector, vector_of};
     ghost use Rattle.zv_hashmap.specs.Table.{AreTable, Table};
 
     ghost Value = { Table };
@@ -50,24 +52,10 @@ impl<'a, K: HashBytes, V: ZvKind, C: ZvContainer<K>, D: ZvContainer<V>> Model
       displacements = m.displacements.values;
       keys = C.list m.keys;
       values = D.list m.values;
-      displacement_vector = record {
-        bytes = m.displacements.bytes;
-        spare = m.displacements.spare;
-        owned = m.displacements.owned;
-        ready = m.displacements.owned;
-      };
-      key_vector = record {
-        bytes = C.bytes m.keys;
-        spare = C.spare m.keys;
-        owned = C.owned m.keys;
-        ready = C.ready m.keys;
-      };
-      value_vector = record {
-        bytes = D.bytes m.values;
-        spare = D.spare m.values;
-        owned = D.owned m.values;
-        ready = D.ready m.values;
-      };
+      displacement_vector =
+          fixed_vector 8 m.displacements.bytes m.displacements.spare m.displacements.owned;
+      key_vector = vector_of C.bytes C.layout C.spare C.owned C.ready m.keys;
+      value_vector = vector_of D.bytes D.layout D.spare D.owned D.ready m.values;
     } };
 
     ghost invariant = { λ m. AreTable K.usable V.usable m.displacements.values (C.list m.keys)
@@ -268,10 +256,12 @@ impl<'a, K: HashBytes, V: ZvKind, C: ZvContainer<K>, D: ZvContainer<V>> HashMapO
         ensures displacements { IfOk result (λ t. t.displacements ≡ displacements.entry.values) }
         ensures keys { IfOk result (λ t. t.keys ≡ C.list keys) }
         ensures values { IfOk result (λ t. t.values ≡ D.list values) }
-        ensures displacement_bytes { IfOk result
-            (λ t. t.displacement_vector.bytes ≡ displacements.entry.bytes) }
-        ensures key_bytes { IfOk result (λ t. t.key_vector.bytes ≡ C.bytes keys) }
-        ensures value_bytes { IfOk result (λ t. t.value_vector.bytes ≡ D.bytes values) }
+        ensures displacement_vector { IfOk result (λ t. t.displacement_vector ≡ fixed_vector 8
+            displacements.entry.bytes displacements.entry.spare displacements.entry.owned) }
+        ensures key_vector { IfOk result (λ t. t.key_vector
+            ≡ vector_of C.bytes C.layout C.spare C.owned C.ready keys) }
+        ensures value_vector { IfOk result (λ t. t.value_vector
+            ≡ vector_of D.bytes D.layout D.spare D.owned D.ready values) }
     {
         if keys.zvl_len() != values.zvl_len() {
             return Err(HashPartsError::KeyValueCount);

@@ -7,3 +7,5 @@ mod boxes;
 mod elements;
 #[cfg(test)]
 mod impls;
+#[cfg(test)]
+mod stored;

@@ -198,6 +198,52 @@ fn a_list_is_taken_apart(rt: HostRuntime) -> Result<(), Fail> {
     Ok(())
 }
 
+// A vector of four is taken apart.
+fn is_vector_taken_apart<T: AsULE + PartialEq>(
+    rt: &impl Abort,
+    list: &ZeroVec<'_, T>,
+    values: &[T],
+) {
+    assert!(rt; values.len() == 4);
+    match list.split_first() {
+        Some((first, rest)) => {
+            assert!(rt; first == values[0]);
+            is_view(rt, rest, &values[1..]);
+        }
+        None => panic!(rt; "there are four"),
+    }
+    match list.get_subslice(1..3) {
+        Some(middle) => is_view(rt, middle, &values[1..3]),
+        None => panic!(rt; "there are four"),
+    }
+    assert!(rt; list.get_subslice(3..5).is_none() && list.get_subslice(2..1).is_none());
+}
+
+// A vector of the four numbers is read as an array, and as other values.
+fn is_read_otherwise(rt: &impl Abort, list: &ZeroVec<'_, u16>) -> Result<(), Fail> {
+    assert!(rt; list.get_as_array::<4>() == Some([211, 281, 421, 32973]));
+    assert!(rt; list.get_as_array::<5>() == None);
+    is_view(rt, list.try_as_converted::<u8>()?, &FOUR_NUMBERS);
+    is_view(
+        rt,
+        list.try_as_converted::<i16>()?,
+        &[211, 281, 421, -32563],
+    );
+    let error = list.try_as_converted::<char>();
+    assert!(rt; error.map(|_| ()) == Err(UleError::length(TyName::Char, 8)));
+    Ok(())
+}
+
+#[test]
+fn a_vector_is_taken_apart(rt: HostRuntime) -> Result<(), Fail> {
+    let list = ZeroVec::<'_, u16>::parse_bytes(&FOUR_NUMBERS)?;
+    is_vector_taken_apart(&rt, &list, &[211, 281, 421, 32973]);
+    is_read_otherwise(&rt, &list)?;
+    let owned = list.into_owned(rt.alloc())?;
+    is_vector_taken_apart(&rt, &owned, &[211, 281, 421, 32973]);
+    is_read_otherwise(&rt, &owned)
+}
+
 #[test]
 fn an_empty_list_has_no_parts(rt: HostRuntime) {
     let list = ZeroSlice::<'static, u32>::new_empty();
@@ -205,6 +251,9 @@ fn an_empty_list_has_no_parts(rt: HostRuntime) {
     assert!(rt; list.get_as_array::<0>() == Some([]));
     assert!(rt; (list.first(), list.last()) == (None, None));
     is_view(&rt, list, &[]);
+    let vector = ZeroVec::<'static, u32>::new();
+    assert!(rt; vector.split_first().is_none());
+    assert!(rt; vector.get_as_array::<0>() == Some([]));
 }
 
 #[test]

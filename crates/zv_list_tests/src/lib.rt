@@ -1,6 +1,8 @@
-//! Tests of lists of either form at concrete kinds.
+//! Tests of lists of either form, of their changes and of vectors, at concrete kinds.
 #![tactic(auto)]
 
+#[cfg(test)]
+mod components;
 #[cfg(test)]
 mod defaults;
 #[cfg(test)]
@@ -11,3 +13,13 @@ mod formats;
 mod lists;
 #[cfg(test)]
 mod nested;
+#[cfg(test)]
+mod removals;
+#[cfg(test)]
+mod serialized;
+#[cfg(test)]
+mod shelves;
+#[cfg(test)]
+mod splices;
+#[cfg(test)]
+mod vectors;

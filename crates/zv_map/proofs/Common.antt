@@ -15,4 +15,4 @@ pub use Rattle.zv_ule.specs.Search.{Rises, compared}
 pub use Rattle.zv_map.specs.Keys.{Bytes, nth}
 pub use Rattle.zv_map.specs.Permuted.{permuted}
 pub use Rattle.zv_map.specs.Views.{list_of}
-pub use Rattle.zv_map.specs.declared.view.Form.TheVariants.{Fixed}
+pub use Rattle.zv_map.specs.declared.view.Layout.TheVariants.{Fixed}

@@ -9,7 +9,7 @@ use Rattle.zv_ule.specs.Kinds.{IsFixedKind, one_fault}
 use Rattle.zv_ule.specs.declared.error.TyName.{TyName}
 use Rattle.zv_ule.specs.declared.error.UleError.{UleError}
 use Rattle.zv_map.proofs.Common.{◌≡◌, ℕ, zero, suc, ◌≤◌, Bool, List, length, take, drop, None, refl, arith, common_steps, nat_tests, Fixed}
-use Rattle.zv_map.specs.Forms.{spells_in}
+use Rattle.zv_map.specs.Layouts.{spells_in}
 
 -- where chunks lie, how many there are, and that they are good
 pub ruleset chunk_places = (common_steps, gets, place, chunk_of, good_at, length-chunks)
@@ -23,7 +23,7 @@ module _ {usable : Bool} {fault f : List ℕ → Option UleError} {ty : TyName} 
       let one : one_fault ty w f (take w b) ≡ f (take w b) = grind (arith, nat_tests) in
       rw (kind.errors (take w b), one, same_fault n (drop w b) (omega (arith, suc-mul n w, length-drop w b)))
 
-  -- a list without a fault spells elements in the form of its width
+  -- a list without a fault spells elements in the layout of its width
   pub spells_fixed : (b : List ℕ) → IsTrue (is_width w) → chunks_fault ty w f b ≡ None → IsTrue (spells_in (Fixed w) fault b)
   spells_fixed b wide h = rw (same_fault (length b / w) b (div-mul-le_self (length b) w)) (grind (arith, nat_tests, common_steps))
 

@@ -1,5 +1,5 @@
 pub mod Elements
-pub mod Forms
+pub mod Layouts
 pub mod Iters
 pub mod Keys
 pub mod Laws

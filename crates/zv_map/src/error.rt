@@ -3,15 +3,18 @@ ghost use Rattle.std.specs.Prelude.{◌≡◌};
 ghost use Rattle.zv_map.specs.Refusals.{refusal_of};
 ghost use Rattle.zv_map.specs.declared.error.MapError.TheVariants.{Memory};
 
+use thiserror::Error;
 use zv_owned::error::VecError;
 use zv_ule::NoMemory;
 
 /// Why a change of a container or a map is refused. After either nothing is changed.
-#[derive(Clone, Copy, Debug, PartialEq, Eq)]
+#[derive(Clone, Copy, Debug, PartialEq, Eq, Error)]
 pub enum MapError {
-    /// The element is too large for the container's form, or the container would be.
+    /// The element is too large for the container's layout, or the container would be.
+    #[error("too large")]
     TooLarge,
     /// No memory was given.
+    #[error("out of memory")]
     Memory,
 }
 
@@ -37,5 +40,6 @@ impl From<VecError> for MapError {
 }
 
 /// The size rule refuses an element: the error of a change that takes no memory.
-#[derive(Clone, Copy, Debug, PartialEq, Eq)]
+#[derive(Clone, Copy, Debug, PartialEq, Eq, Error)]
+#[error("too large")]
 pub struct TooLarge;

@@ -1,14 +1,13 @@
 // The container of elements of one width.
 ghost use Rattle.std.specs.Prelude.{◌≡◌, ℕ, ◌<◌, List, [], length, IsTrue, refl, true};
-ghost use Rattle.std.specs.List.{concat};
 ghost use Rattle.zv_ule.specs.Chunks.{chunks_fault, chunks_of};
-ghost use Rattle.zv_map.specs.Forms.{is_fixed};
+ghost use Rattle.zv_map.specs.Layouts.{is_fixed};
 ghost use Rattle.zv_map.specs.Keys.{nth};
-ghost use Rattle.zv_map.specs.declared.view.Form.TheVariants.{Fixed};
+ghost use Rattle.zv_map.specs.declared.view.Layout.TheVariants.{Fixed};
 
 use crate::error::{MapError, TooLarge};
 use crate::vecs::{MutableZeroVecLike, ZeroVecLike, ZvContainer};
-use crate::view::{Form, KvSlice, RawView};
+use crate::view::{Layout, KvSlice, RawView};
 use std::alloc::Global;
 use zv_fixed::slice::ZeroSlice;
 use zv_fixed::vector::ZeroVec;
@@ -21,7 +20,7 @@ impl<'a, T: AsULE> ZeroVecLike<T> for ZeroVec<'a, T> {
 
     ghost bytes = { λ v. v.bytes };
 
-    ghost form = { λ v. Fixed T.ULE.width };
+    ghost layout = { λ v. Fixed T.ULE.width };
 
     #[inline]
     fn zvl_new_borrowed() -> KvSlice<'static, T>
@@ -37,7 +36,7 @@ impl<'a, T: AsULE> ZeroVecLike<T> for ZeroVec<'a, T> {
         self.all_read();
         let raw = RawView {
             bytes: self.as_bytes(),
-            form: Form::Fixed(<T::ULE as ULE>::size()),
+            layout: Layout::Fixed(<T::ULE as ULE>::size()),
         };
         KvSlice::of_valid(raw)
     }
@@ -67,8 +66,7 @@ fn value_at<T: AsULE>(list: &ZeroVec<'_, T>, index: usize) -> T
 impl<'a, T: AsULE> ZvContainer<T> for ZeroVec<'a, T> {
     ghost use Rattle.std.proofs.Common.{arith};
     ghost use Rattle.zv_owned.proofs.Pushes.{always_taken};
-    ghost use Rattle.zv_map.specs.Elements.{chunks_valid};
-    ghost use Rattle.zv_map.specs.Laws.{chunks_read, chunks_sound, is_fixed_self};
+    ghost use Rattle.zv_map.specs.Laws.{is_fixed_self};
 
     type OwnedType = T;
 
@@ -86,13 +84,13 @@ impl<'a, T: AsULE> ZvContainer<T> for ZeroVec<'a, T> {
 
     ghost takes_replace = { λ _ _ _. true };
 
-    ghost has_form = { is_fixed T.ULE.width };
+    ghost has_layout = { is_fixed T.ULE.width };
 
     ghost parse_fault = { chunks_fault T.ULE.TY T.ULE.width T.ULE.chunk_fault };
 
     ghost parse_list = { chunks_of T.ULE.width };
 
-    ghost spelling = { concat };
+    ghost parse_layout = { Fixed T.ULE.width };
 
     #[inline]
     fn zvl_new() -> Self {
@@ -118,16 +116,6 @@ impl<'a, T: AsULE> ZvContainer<T> for ZeroVec<'a, T> {
     #[inline]
     fn zvl_get_owned(&self, _alloc: Global, index: usize) -> Result<T, NoMemory> {
         Ok(value_at(self, index))
-    }
-
-    #[inline]
-    fn zvl_bytes(&self) -> &[u8] {
-        self.as_bytes()
-    }
-
-    #[inline]
-    fn zvl_spelling(&self) -> &[u8] {
-        self.as_bytes()
     }
 
     #[inline]
@@ -200,15 +188,7 @@ impl<'a, T: AsULE> ZvContainer<T> for ZeroVec<'a, T> {
 
     ghost any_order = { λ xs ys _ _. always_taken [] ys };
 
-    ghost own_form = { λ _. is_fixed_self T.ULE.width };
-
-    ghost spelling_of_none = { refl };
-
-    ghost elements_valid = { chunks_valid T.kind };
-
-    ghost spelling_sound = { λ bytes _. chunks_sound T.ULE.TY T.ULE.width T.ULE.chunk_fault bytes };
-
-    ghost spelling_reads = { λ bytes _. chunks_read T.ULE.TY T.ULE.width T.ULE.chunk_fault bytes };
+    ghost own_layout = { λ _. is_fixed_self T.ULE.width };
 }
 
 impl<'a, T: AsULE> MutableZeroVecLike<'a, T> for ZeroVec<'a, T> {
@@ -230,8 +210,8 @@ impl<'a, T: AsULE> MutableZeroVecLike<'a, T> for ZeroVec<'a, T> {
         if b.bytes.is_empty() {
             return Some(ZeroVec::new());
         }
-        match b.form {
-            Form::Fixed(width) if width == <T::ULE as ULE>::size() => {
+        match b.layout {
+            Layout::Fixed(width) if width == <T::ULE as ULE>::size() => {
                 Some(ZeroVec::new_borrowed(ZeroSlice::of_valid(b.bytes)))
             }
             _ => None,
@@ -244,7 +224,7 @@ impl<'a, T: AsULE> MutableZeroVecLike<'a, T> for ZeroVec<'a, T> {
         let view = self.as_maybe_borrowed()?;
         Some(RawView {
             bytes: view.as_bytes(),
-            form: Form::Fixed(<T::ULE as ULE>::size()),
+            layout: Layout::Fixed(<T::ULE as ULE>::size()),
         })
     }
 

@@ -2,6 +2,7 @@
 
 use crate::vecs::ZeroMapKV;
 use std::num::{NonZeroI8, NonZeroU8};
+use zv_fixed::slice::ZeroSliceULE;
 use zv_fixed::vector::ZeroVec;
 use zv_owned::vector::VarZeroVec;
 use zv_ule::{AsULE, Index16, NicheBytes, NichedOption, SliceULE, StrULE, ULE};
@@ -116,4 +117,8 @@ impl<'a> ZeroMapKV<'a> for StrULE {
 
 impl<'a, U: ULE> ZeroMapKV<'a> for SliceULE<U> {
     type Container = VarZeroVec<'a, SliceULE<U>, Index16>;
+}
+
+impl<'a, T: AsULE> ZeroMapKV<'a> for ZeroSliceULE<T> {
+    type Container = VarZeroVec<'a, ZeroSliceULE<T>, Index16>;
 }

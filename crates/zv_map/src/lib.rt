@@ -5,7 +5,7 @@
 //! they have any length. A map knows its containers through the traits alone: [`ZeroVecLike`] to
 //! read, [`ZeroVecSearch`] and [`ZeroVecSearchBy`] to search, [`ZvContainer`] for what a container
 //! means, [`MutableZeroVecLike`] to change. A `VarZeroVec` has them in each format that a view can
-//! name ([`MapForm`]). A [`KvSlice`] views the list of any of them.
+//! name ([`MapFormat`]). A [`KvSlice`] views the list of any of them.
 #![tactic(auto)]
 
 pub mod copied;
@@ -27,6 +27,6 @@ pub use iter::{KvSliceIter, ZeroMapIter, ZeroMapKeys, ZeroMapValues};
 pub use permute::ZeroVecPermute;
 pub use predicate::ZeroVecSearchBy;
 pub use search::ZeroVecSearch;
-pub use variable::MapForm;
+pub use variable::MapFormat;
 pub use vecs::{MutableZeroVecLike, ZeroMapKV, ZeroVecLike, ZvContainer};
-pub use view::{Form, KvSlice, RawView};
+pub use view::{Layout, KvSlice, RawView};

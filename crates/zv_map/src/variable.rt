@@ -2,21 +2,21 @@
 ghost use Rattle.std.specs.Prelude.{◌≡◌, ℕ, ◌==◌, ◌+◌, ◌<◌, List, [], length, refl, None, IsTrue};
 ghost use Rattle.std.specs.Prelude.{IfOk};
 ghost use Rattle.zv_ule.specs.Views.{element_of};
-ghost use Rattle.zv_var.specs.Format.{elements, enc, list_fault};
+ghost use Rattle.zv_var.specs.Format.{elements, list_fault};
 ghost use Rattle.zv_var.specs.Nested.{slice_fault};
 ghost use Rattle.zv_var.specs.Views.{bytes_of as slice_bytes, list_of as slice_list};
 ghost use Rattle.zv_owned.specs.Size.{takes_insert, takes_replace};
 ghost use Rattle.zv_owned.specs.Vectors.{vector_list, vector_bytes, vector_owned, vector_spare};
-ghost use Rattle.zv_map.specs.Forms.{field_width, list_in, spells_in};
+ghost use Rattle.zv_map.specs.Layouts.{field_width, list_in, spells_in};
 ghost use Rattle.zv_map.specs.Keys.{nth};
-ghost use Rattle.zv_map.specs.declared.view.Form.{Form};
-ghost use Rattle.zv_map.specs.declared.view.Form.TheVariants.{Index16 as FormIndex16};
-ghost use Rattle.zv_map.specs.declared.view.Form.TheVariants.{Index32 as FormIndex32};
+ghost use Rattle.zv_map.specs.declared.view.Layout.{Layout};
+ghost use Rattle.zv_map.specs.declared.view.Layout.TheVariants.{Index16 as LayoutIndex16};
+ghost use Rattle.zv_map.specs.declared.view.Layout.TheVariants.{Index32 as LayoutIndex32};
 
 use crate::error::{MapError, TooLarge};
 use crate::search::Indexed;
 use crate::vecs::{MutableZeroVecLike, ZeroVecLike, ZvContainer};
-use crate::view::{Form, KvSlice, RawView};
+use crate::view::{Layout, KvSlice, RawView};
 use std::alloc::Global;
 use zv_owned::vector::VarZeroVec;
 use zv_owned::{VarZeroVecOwned, VecError};
@@ -26,68 +26,68 @@ use zv_ule::{
 };
 use zv_var::slice::VarZeroSlice;
 
-/// A format whose lists are viewed in a form of their own.
-pub trait MapForm: VarZeroVecFormat {
-    /// The form of lists in the format.
-    const FORM: Form;
+/// A format whose lists are viewed in a layout of their own.
+pub trait MapFormat: VarZeroVecFormat {
+    /// The layout of lists in the format.
+    const LAYOUT: Layout;
 
-    ghost FORM: { Form };
+    ghost LAYOUT: { Layout };
 
-    /// The form's fields are as wide as the format's.
-    ghost form_width: { field_width FORM ≡ Self.W };
+    /// The layout's fields are as wide as the format's.
+    ghost layout_width: { field_width LAYOUT ≡ Self.W };
 }
 
-impl MapForm for Index16 {
-    const FORM: Form = Form::Index16;
+impl MapFormat for Index16 {
+    const LAYOUT: Layout = Layout::Index16;
 
-    ghost FORM = { FormIndex16 };
+    ghost LAYOUT = { LayoutIndex16 };
 
-    ghost form_width = { refl };
+    ghost layout_width = { refl };
 }
 
-impl MapForm for Index32 {
-    const FORM: Form = Form::Index32;
+impl MapFormat for Index32 {
+    const LAYOUT: Layout = Layout::Index32;
 
-    ghost FORM = { FormIndex32 };
+    ghost LAYOUT = { LayoutIndex32 };
 
-    ghost form_width = { refl };
+    ghost layout_width = { refl };
 }
 
-/// The bytes of a list in the format, with its form.
+/// The bytes of a list in the format, with its layout.
 #[inline]
-fn raw_view<'b, T: ZvKind, F: MapForm>(list: VarZeroSlice<'b, T, F>) -> RawView<'b>
+fn raw_view<'b, T: ZvKind, F: MapFormat>(list: VarZeroSlice<'b, T, F>) -> RawView<'b>
     ensures bytes { result.bytes.now ≡ slice_bytes list.entry }
-    ensures form { result.form ≡ F.FORM }
-    ensures list { list_in result.form result.bytes.now ≡ slice_list list.entry }
+    ensures layout { result.layout ≡ F.LAYOUT }
+    ensures list { list_in result.layout result.bytes.now ≡ slice_list list.entry }
     ensures usable { IsTrue T.usable }
-    ensures spells { IsTrue (spells_in result.form T.fault result.bytes.now) }
+    ensures spells { IsTrue (spells_in result.layout T.fault result.bytes.now) }
 {
     RawView {
         bytes: list.as_bytes(),
-        form: F::FORM,
+        layout: F::LAYOUT,
     }
 }
 
-/// The list in the format of a view whose form is the format's.
+/// The list in the format of a view whose layout is the format's.
 #[inline]
-fn slice_of<'b, T: ZvKind, F: MapForm>(view: RawView<'b>) -> VarZeroSlice<'b, T, F>
+fn slice_of<'b, T: ZvKind, F: MapFormat>(view: RawView<'b>) -> VarZeroSlice<'b, T, F>
     requires usable { IsTrue T.usable }
-    requires form { field_width view.form ≡ F.W }
-    requires spells { IsTrue (spells_in view.form T.fault view.bytes.now) }
+    requires layout { field_width view.layout ≡ F.W }
+    requires spells { IsTrue (spells_in view.layout T.fault view.bytes.now) }
     ensures bytes { slice_bytes result ≡ view.entry.bytes.now }
-    ensures list { slice_list result ≡ list_in view.entry.form view.entry.bytes.now }
+    ensures list { slice_list result ≡ list_in view.entry.layout view.entry.bytes.now }
 {
     VarZeroSlice::of_valid(view.bytes)
 }
 
-impl<'a, T: ZvKind, F: MapForm> ZeroVecLike<T> for VarZeroVec<'a, T, F> {
+impl<'a, T: ZvKind, F: MapFormat> ZeroVecLike<T> for VarZeroVec<'a, T, F> {
     ghost use Rattle.zv_map.specs.Views.{bytes_of, list_of};
 
     ghost list = { vector_list };
 
     ghost bytes = { vector_bytes };
 
-    ghost form = { λ _. F.FORM };
+    ghost layout = { λ _. F.LAYOUT };
 
     #[inline]
     fn zvl_new_borrowed() -> KvSlice<'static, T>
@@ -114,20 +114,9 @@ impl<'a, T: ZvKind, F: MapForm> ZeroVecLike<T> for VarZeroVec<'a, T, F> {
     }
 }
 
-/// The bytes of a list that has an element, which are all that it is written as.
-#[inline]
-fn encoding<T: ZvKind, F: MapForm>(bytes: &[u8]) -> &[u8]
-    requires sound { list_fault F.W T.fault bytes.now ≡ None }
-    requires some { 0 < length (elements F.W bytes.now) }
-    ensures { result.now ≡ enc F.W (elements F.W bytes.now) }
-{
-    bytes
-}
-
-impl<'a, T: ZvKind, F: MapForm> ZvContainer<T> for VarZeroVec<'a, T, F> {
+impl<'a, T: ZvKind, F: MapFormat> ZvContainer<T> for VarZeroVec<'a, T, F> {
     ghost use Rattle.zv_owned.proofs.Pushes.{any_order};
-    ghost use Rattle.zv_map.specs.Elements.{elements_valid};
-    ghost use Rattle.zv_map.specs.Laws.{encoding_reads, encoding_sound, form_has};
+    ghost use Rattle.zv_map.specs.Laws.{layout_has};
 
     type OwnedType = VarBox<T>;
 
@@ -145,13 +134,13 @@ impl<'a, T: ZvKind, F: MapForm> ZvContainer<T> for VarZeroVec<'a, T, F> {
 
     ghost takes_replace = { λ xs i n. takes_replace F.W xs (length (nth xs i)) n };
 
-    ghost has_form = { λ form. field_width form == F.W };
+    ghost has_layout = { λ layout. field_width layout == F.W };
 
     ghost parse_fault = { λ bytes. slice_fault (list_fault F.W T.fault bytes) };
 
     ghost parse_list = { elements F.W };
 
-    ghost spelling = { enc F.W };
+    ghost parse_layout = { F.LAYOUT };
 
     #[inline]
     fn zvl_new() -> Self {
@@ -176,20 +165,6 @@ impl<'a, T: ZvKind, F: MapForm> ZvContainer<T> for VarZeroVec<'a, T, F> {
     #[inline]
     fn zvl_get_owned(&self, alloc: Global, index: usize) -> Result<VarBox<T>, NoMemory> {
         Indexed::new(self).element_at(index).to_boxed(alloc)
-    }
-
-    #[inline]
-    fn zvl_bytes(&self) -> &[u8] {
-        self.as_slice().as_bytes()
-    }
-
-    #[inline]
-    fn zvl_spelling(&self) -> &[u8] {
-        if self.is_empty() {
-            &[]
-        } else {
-            encoding::<T, F>(self.as_slice().as_bytes())
-        }
     }
 
     #[inline]
@@ -281,18 +256,10 @@ impl<'a, T: ZvKind, F: MapForm> ZvContainer<T> for VarZeroVec<'a, T, F> {
 
     ghost any_order = { any_order F.W F.width_positive F.field_small };
 
-    ghost own_form = { λ _. form_has F.FORM F.W F.form_width };
-
-    ghost spelling_of_none = { refl };
-
-    ghost elements_valid = { elements_valid T.fault F.W F.width_positive };
-
-    ghost spelling_sound = { λ bytes. encoding_sound F.W T.fault bytes F.width_positive };
-
-    ghost spelling_reads = { λ bytes. encoding_reads F.W T.fault bytes F.width_positive };
+    ghost own_layout = { λ _. layout_has F.LAYOUT F.W F.layout_width };
 }
 
-impl<'a, T: ZvKind, F: MapForm> MutableZeroVecLike<'a, T> for VarZeroVec<'a, T, F> {
+impl<'a, T: ZvKind, F: MapFormat> MutableZeroVecLike<'a, T> for VarZeroVec<'a, T, F> {
     #[inline]
     fn zvl_with_capacity(alloc: Global, capacity: usize) -> Result<Self, NoMemory> {
         VarZeroVec::with_capacity(alloc, capacity)
@@ -308,7 +275,7 @@ impl<'a, T: ZvKind, F: MapForm> MutableZeroVecLike<'a, T> for VarZeroVec<'a, T, 
         if b.bytes.is_empty() {
             return Some(VarZeroVec::new());
         }
-        if b.form.field_width() != F::W {
+        if b.layout.field_width() != F::W {
             return None;
         }
         Some(VarZeroVec::new_borrowed(slice_of(b)))

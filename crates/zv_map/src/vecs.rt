@@ -1,22 +1,21 @@
 // What the containers of maps are.
 ghost use Rattle.std.specs.Prelude.{◌≡◌, ℕ, ◌==◌, ◌||◌, ◌+◌, ◌*◌, ◌^◌, ◌<◌, ◌≤◌, List, []};
 ghost use Rattle.std.specs.Prelude.{◌∷◌, ◌++◌};
-ghost use Rattle.std.specs.Prelude.{length, Option, None, is_some, IfSome, Bool, true, false, not};
+ghost use Rattle.std.specs.Prelude.{length, Option, is_some, IfSome, Bool, true, false, not};
 ghost use Rattle.std.specs.Prelude.{IsFalse, IsTrue, IfOk, OnOk, OnErr, map, is_ok, set};
 ghost use Rattle.std.specs.Prelude.{IsPermutation};
-ghost use Rattle.std.specs.List.{AllByRecursion, insert, remove, slice_get};
+ghost use Rattle.std.specs.List.{insert, remove, slice_get};
 ghost use Rattle.std.specs.Option.{option_map};
 ghost use Rattle.std.specs.Result.{result_err};
-ghost use Rattle.zv_ule.specs.Bytes.{IsBytes};
 ghost use Rattle.zv_ule.specs.Views.{element_of};
 ghost use Rattle.zv_ule.specs.declared.error.UleError.{UleError};
 ghost use Rattle.zv_owned.specs.Size.{takes_pushes};
-ghost use Rattle.zv_map.specs.Forms.{list_in, spells_in};
-ghost use Rattle.zv_map.specs.Keys.{IsElementOf, nth};
+ghost use Rattle.zv_map.specs.Layouts.{list_in, spells_in, written};
+ghost use Rattle.zv_map.specs.Keys.{nth};
 ghost use Rattle.zv_map.specs.Refusals.{TooLargeUnless};
 ghost use Rattle.zv_map.specs.Reserved.{HasPlace, HasRoom, IsTaken, put_at, takes_put};
 ghost use Rattle.zv_map.specs.Views.{bytes_of, list_of};
-ghost use Rattle.zv_map.specs.declared.view.Form.{Form};
+ghost use Rattle.zv_map.specs.declared.view.Layout.{Layout};
 
 use crate::error::{MapError, TooLarge};
 use crate::view::{KvSlice, RawView};
@@ -28,11 +27,11 @@ pub trait ZeroVecLike<T: ZvKind>: Sized {
     /// The elements, each as its bytes.
     ghost list: { Self → List (List ℕ) };
 
-    /// The bytes, which spell the list in the container's form.
+    /// The bytes, which spell the list in the container's layout.
     ghost bytes: { Self → List ℕ };
 
     /// How the bytes spell the list.
-    ghost form: { Self → Form };
+    ghost layout: { Self → Layout };
 
     /// The empty list, in a view that has no bytes.
     fn zvl_new_borrowed() -> KvSlice<'static, T>
@@ -40,11 +39,11 @@ pub trait ZeroVecLike<T: ZvKind>: Sized {
         ensures list { list_of result ≡ [] }
         ensures bytes { bytes_of result ≡ [] };
 
-    /// A view of the same list, of the same bytes in the same form.
+    /// A view of the same list, of the same bytes in the same layout.
     fn zvl_as_borrowed(&self) -> KvSlice<'_, T>
         ensures list { list_of result ≡ list self.now }
         ensures bytes { bytes_of result ≡ bytes self.now }
-        ensures form { result.form ≡ form self.now };
+        ensures layout { result.layout ≡ layout self.now };
 
     /// How many elements there are.
     fn zvl_len(&self) -> usize
@@ -96,8 +95,8 @@ pub trait ZvContainer<T: ZvKind>: ZeroVecLike<T> {
     /// there.
     ghost takes_replace: { List (List ℕ) → ℕ → ℕ → Bool };
 
-    /// Whether bytes in the form can be the container's.
-    ghost has_form: { Form → Bool };
+    /// Whether bytes in the layout can be the container's.
+    ghost has_layout: { Layout → Bool };
 
     /// The error of bytes that spell no list, or nothing where they spell one.
     ghost parse_fault: { List ℕ → Option UleError };
@@ -105,8 +104,8 @@ pub trait ZvContainer<T: ZvKind>: ZeroVecLike<T> {
     /// The list that bytes spell.
     ghost parse_list: { List ℕ → List (List ℕ) };
 
-    /// The bytes that a list is written as: none where it is empty.
-    ghost spelling: { List (List ℕ) → List ℕ };
+    /// The layout of a list that was read.
+    ghost parse_layout: { Layout };
 
     /// The empty list, borrowed.
     fn zvl_new() -> Self
@@ -134,15 +133,23 @@ pub trait ZvContainer<T: ZvKind>: ZeroVecLike<T> {
         ensures { IfOk result (λ e. Self.OwnedType.bytes e ≡ nth (Self.list self.now) index) };
 
     /// The bytes. They are those that were borrowed, or as the last change left them.
+    #[inline]
     fn zvl_bytes(&self) -> &[u8]
         ensures bytes { result.now ≡ Self.bytes self.now }
-        ensures sound { parse_fault result.now ≡ None }
-        ensures list { parse_list result.now ≡ Self.list self.now };
+        ensures spells { IsTrue (spells_in (Self.layout self.now) T.fault result.now) }
+        ensures list { list_in (Self.layout self.now) result.now ≡ Self.list self.now }
+    {
+        self.zvl_as_borrowed().bytes()
+    }
 
-    /// The bytes that the list is written as, which lie in the container's own: all of them, but
-    /// none where the list is empty.
+    /// The bytes that the list is written as in the container's layout. They lie in the container's
+    /// own: all of them, but none where the list is empty.
+    #[inline]
     fn zvl_spelling(&self) -> &[u8]
-        ensures { result.now ≡ spelling (Self.list self.now) };
+        ensures { result.now ≡ written (Self.layout self.now) (Self.list self.now) }
+    {
+        self.zvl_as_borrowed().written()
+    }
 
     /// Whether the list takes one element more, of `len` bytes, by the container's size rule.
     fn zvl_takes_insert(&self, len: usize) -> bool
@@ -164,12 +171,14 @@ pub trait ZvContainer<T: ZvKind>: ZeroVecLike<T> {
         ensures list { Self.list self.new ≡ [] }
         ensures bytes { Self.bytes self.new ≡ [] }
         ensures owned { owned self.new ≡ owned self.old }
+        ensures ready { ready self.old ≡ true → ready self.new ≡ true }
         ensures spare { spare self.old ≤ spare self.new };
 
     /// Makes the container own its bytes. One that does is never refused.
     fn zvl_make_owned(&mut self, alloc: Global) -> Result<(), NoMemory>
         ensures list { Self.list self.new ≡ Self.list self.old }
         ensures bytes { Self.bytes self.new ≡ Self.bytes self.old }
+        ensures layout { Self.layout self.new ≡ Self.layout self.old }
         ensures owned { OnOk result (Self.owned self.new ≡ true) }
         ensures err { OnErr result (self.new ≡ self.old) };
 
@@ -178,7 +187,9 @@ pub trait ZvContainer<T: ZvKind>: ZeroVecLike<T> {
     fn zvl_reserve(&mut self, alloc: Global, additional: usize) -> Result<(), NoMemory>
         ensures list { Self.list self.new ≡ Self.list self.old }
         ensures bytes { Self.bytes self.new ≡ Self.bytes self.old }
+        ensures layout { Self.layout self.new ≡ Self.layout self.old }
         ensures owned { OnOk result (Self.owned self.new ≡ true) }
+        ensures ready { OnOk result (Self.ready self.new ≡ true) }
         ensures room { OnOk result (additional * Self.element_room ≤ Self.spare self.new) }
         ensures err { OnErr result (self.new ≡ self.old) }
     {
@@ -193,6 +204,8 @@ pub trait ZvContainer<T: ZvKind>: ZeroVecLike<T> {
     fn zvl_reserve_bytes(&mut self, alloc: Global, n: usize) -> Result<(), NoMemory>
         ensures list { Self.list self.new ≡ Self.list self.old }
         ensures bytes { Self.bytes self.new ≡ Self.bytes self.old }
+        ensures layout { Self.layout self.new ≡ Self.layout self.old }
+        ensures owned { OnOk result (Self.owned self.new ≡ true) }
         ensures ready { OnOk result (Self.ready self.new ≡ true) }
         ensures room { OnOk result (n ≤ Self.spare self.new) }
         ensures spare { Self.spare self.old ≤ Self.spare self.new }
@@ -272,7 +285,7 @@ pub trait ZvContainer<T: ZvKind>: ZeroVecLike<T> {
         requires owned { Self.owned self.old ≡ true }
         ensures list { Self.list self.new ≡ remove (Self.list self.old) index }
         ensures owned { Self.owned self.new ≡ true }
-        ensures ready { Self.ready self.new ≡ Self.ready self.old }
+        ensures ready { Self.ready self.old ≡ true → Self.ready self.new ≡ true }
         ensures spare { Self.spare self.old ≤ Self.spare self.new };
 
     /// A field is small: at most four bytes.
@@ -288,23 +301,8 @@ pub trait ZvContainer<T: ZvKind>: ZeroVecLike<T> {
     ghost any_order: { (xs ys : List (List ℕ)) → IsPermutation xs ys →
         takes_pushes takes_insert [] xs ≡ true → takes_pushes takes_insert [] ys ≡ true };
 
-    /// A container has its own form, so it takes a view of itself.
-    ghost own_form: { (x : Self) → has_form (Self.form x) ≡ true };
-
-    /// The empty list is written as no bytes.
-    ghost spelling_of_none: { spelling [] ≡ [] };
-
-    /// The elements of a list that bytes spell are the kind's.
-    ghost elements_valid: { (bytes : List ℕ) → IsBytes bytes → parse_fault bytes ≡ None →
-        AllByRecursion (IsElementOf T.fault) (parse_list bytes) };
-
-    /// What a list that bytes spell is written as has no fault.
-    ghost spelling_sound: { (bytes : List ℕ) → IsBytes bytes → parse_fault bytes ≡ None →
-        parse_fault (spelling (parse_list bytes)) ≡ None };
-
-    /// And it reads as the list.
-    ghost spelling_reads: { (bytes : List ℕ) → IsBytes bytes → parse_fault bytes ≡ None →
-        parse_list (spelling (parse_list bytes)) ≡ parse_list bytes };
+    /// A container has its own layout, so it takes a view of itself.
+    ghost own_layout: { (x : Self) → has_layout (Self.layout x) ≡ true };
 }
 
 /// A container whose list can be changed. Bytes that are borrowed are never written: the first
@@ -325,16 +323,17 @@ pub trait MutableZeroVecLike<'a, T: ZvKind>: ZvContainer<T> + Drop {
         ensures error { result_err result ≡ Self.parse_fault bytes.now }
         ensures list { IfOk result (λ c. Self.list c ≡ Self.parse_list bytes.now) }
         ensures bytes { IfOk result (λ c. Self.bytes c ≡ bytes.now) }
+        ensures layout { IfOk result (λ c. Self.layout c ≡ Self.parse_layout) }
         ensures owned { IfOk result (λ c. Self.owned c ≡ false) };
 
-    /// The list of a view, borrowed, or `None` where the view has bytes and a form that isn't the
+    /// The list of a view, borrowed, or `None` where the view has bytes and a layout that isn't the
     /// container's.
     fn zvl_from_borrowed(b: RawView<'a>) -> Option<Self>
         requires usable { IsTrue T.usable }
-        requires spells { IsTrue (spells_in b.form T.fault b.bytes.now) }
+        requires spells { IsTrue (spells_in b.layout T.fault b.bytes.now) }
         ensures fits { is_some result ≡
-            (length b.entry.bytes.now == 0 || Self.has_form b.entry.form) }
-        ensures list { IfSome result (λ c. Self.list c ≡ list_in b.entry.form b.entry.bytes.now) }
+            (length b.entry.bytes.now == 0 || Self.has_layout b.entry.layout) }
+        ensures list { IfSome result (λ c. Self.list c ≡ list_in b.entry.layout b.entry.bytes.now) }
         ensures bytes { IfSome result (λ c. Self.bytes c ≡ b.entry.bytes.now) }
         ensures owned { IfSome result (λ c. Self.owned c ≡ false) };
 
@@ -342,16 +341,17 @@ pub trait MutableZeroVecLike<'a, T: ZvKind>: ZvContainer<T> + Drop {
     /// them.
     fn zvl_as_borrowed_inner(&self) -> Option<RawView<'a>>
         ensures borrowed { is_some result ≡ not (Self.owned self.now) }
-        ensures list { IfSome result (λ b. list_in b.form b.bytes.now ≡ Self.list self.now) }
+        ensures list { IfSome result (λ b. list_in b.layout b.bytes.now ≡ Self.list self.now) }
         ensures bytes { IfSome result (λ b. b.bytes.now ≡ Self.bytes self.now) }
-        ensures form { IfSome result (λ b. b.form ≡ Self.form self.now) }
+        ensures layout { IfSome result (λ b. b.layout ≡ Self.layout self.now) }
         ensures usable { IfSome result (λ _. IsTrue T.usable) }
-        ensures spells { IfSome result (λ b. IsTrue (spells_in b.form T.fault b.bytes.now)) };
+        ensures spells { IfSome result (λ b. IsTrue (spells_in b.layout T.fault b.bytes.now)) };
 
-    /// A container with the same list, bytes and variant.
+    /// A container with the same list, bytes, layout and variant.
     fn zvl_clone(&self, alloc: Global) -> Result<Self, NoMemory>
         ensures list { IfOk result (λ c. Self.list c ≡ Self.list self.now) }
         ensures bytes { IfOk result (λ c. Self.bytes c ≡ Self.bytes self.now) }
+        ensures layout { IfOk result (λ c. Self.layout c ≡ Self.layout self.now) }
         ensures owned { IfOk result (λ c. Self.owned c ≡ Self.owned self.now) };
 
     /// Puts an element at a place, before the one that stands there.
@@ -366,6 +366,7 @@ pub trait MutableZeroVecLike<'a, T: ZvKind>: ZvContainer<T> + Drop {
         ensures ok { OnOk result
             (Self.list self.new ≡ insert (Self.list self.old) index (Q.bytes value.now)) }
         ensures owned { OnOk result (Self.owned self.new ≡ true) }
+        ensures ready { Self.ready self.old ≡ true → Self.ready self.new ≡ true }
         ensures err { OnErr result (self.new ≡ self.old) }
         ensures refused { TooLargeUnless
             (Self.takes_insert (Self.list self.old) (length (Q.bytes value.now))) result };
@@ -376,6 +377,7 @@ pub trait MutableZeroVecLike<'a, T: ZvKind>: ZvContainer<T> + Drop {
         ensures ok { OnOk result
             (Self.list self.new ≡ Self.list self.old ++ Q.bytes value.now ∷ []) }
         ensures owned { OnOk result (Self.owned self.new ≡ true) }
+        ensures ready { Self.ready self.old ≡ true → Self.ready self.new ≡ true }
         ensures err { OnErr result (self.new ≡ self.old) }
         ensures refused { TooLargeUnless
             (Self.takes_insert (Self.list self.old) (length (Q.bytes value.now))) result };
@@ -394,6 +396,7 @@ pub trait MutableZeroVecLike<'a, T: ZvKind>: ZvContainer<T> + Drop {
         ensures before { IfOk result
             (λ old. Self.OwnedType.bytes old ≡ nth (Self.list self.old) index) }
         ensures owned { OnOk result (Self.owned self.new ≡ true) }
+        ensures ready { Self.ready self.old ≡ true → Self.ready self.new ≡ true }
         ensures err { OnErr result (self.new ≡ self.old) }
         ensures refused { TooLargeUnless
             (Self.takes_replace (Self.list self.old) index (length (Q.bytes value.now))) result };
@@ -405,6 +408,7 @@ pub trait MutableZeroVecLike<'a, T: ZvKind>: ZvContainer<T> + Drop {
         ensures before { IfOk result
             (λ old. Self.OwnedType.bytes old ≡ nth (Self.list self.old) index) }
         ensures owned { OnOk result (Self.owned self.new ≡ true) }
+        ensures ready { Self.ready self.old ≡ true → Self.ready self.new ≡ true }
         ensures err { OnErr result (self.new ≡ self.old) };
 }
 

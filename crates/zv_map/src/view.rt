@@ -9,7 +9,7 @@ ghost use Rattle.std.specs.Option.{option_map};
 ghost use Rattle.zv_ule.specs.Chunks.{chunks_of, first_fault};
 ghost use Rattle.zv_ule.specs.Fixed.{is_width};
 ghost use Rattle.zv_ule.specs.Views.{element_of};
-ghost use Rattle.zv_map.specs.Forms.{list_in, spells_in};
+ghost use Rattle.zv_map.specs.Layouts.{list_in, spells_in, written};
 ghost use Rattle.zv_map.specs.Keys.{nth};
 
 use crate::vecs::ZeroVecLike;
@@ -20,7 +20,7 @@ use zv_var::slice::VarZeroSlice;
 
 /// How the bytes of a container spell its list.
 #[derive(Clone, Copy, Debug, PartialEq, Eq)]
-pub enum Form {
+pub enum Layout {
     /// The elements one after another, each of so many bytes.
     Fixed(usize),
     /// The format with fields of two bytes.
@@ -29,39 +29,39 @@ pub enum Form {
     Index32,
 }
 
-impl Form {
-    ghost use Rattle.zv_map.specs.Forms.{field_width};
+impl Layout {
+    ghost use Rattle.zv_map.specs.Layouts.{field_width};
 
-    /// The width of a field in bytes, and 0 where the form has no fields.
+    /// The width of a field in bytes, and 0 where the layout has no fields.
     #[inline]
     pub fn field_width(self) -> usize
         ensures { result ≡ field_width self }
     {
         match self {
-            Form::Fixed(_) => 0,
-            Form::Index16 => Index16::W,
-            Form::Index32 => Index32::W,
+            Layout::Fixed(_) => 0,
+            Layout::Index16 => Index16::W,
+            Layout::Index32 => Index32::W,
         }
     }
 }
 
-/// The bytes of a container and their form, without their kind.
+/// The bytes of a container and their layout, without their kind.
 #[derive(Clone, Copy, Debug)]
 pub struct RawView<'b> {
     /// The bytes of the list, as the container keeps them.
     pub bytes: &'b [u8],
     /// How they spell a list.
-    pub form: Form,
+    pub layout: Layout,
 }
 
-/// A view of a container's list, whatever its form. It is copied freely, lives as long as the
+/// A view of a container's list, whatever its layout. It is copied freely, lives as long as the
 /// bytes, and no call on it checks them again.
 pub struct KvSlice<'b, T: ZvKind> {
     bytes: &'b [u8],
-    form: Form,
+    layout: Layout,
     of: PhantomData<T>,
     pub ghost usable: { IsTrue T.usable },
-    pub ghost spells: { IsTrue (spells_in form T.fault bytes.now) },
+    pub ghost spells: { IsTrue (spells_in layout T.fault bytes.now) },
 }
 
 impl<T: ZvKind> Copy for KvSlice<'_, T> {}
@@ -114,6 +114,16 @@ fn chunk_element<T: ZvKind>(bytes: &[u8], width: usize, index: usize) -> Option<
     }
 }
 
+/// The bytes of a list that has an element, which are all that it is written as.
+#[inline]
+fn encoding<T: ZvKind>(_layout: Layout, bytes: &[u8]) -> &[u8]
+    requires spells { IsTrue (spells_in _layout T.fault bytes.now) }
+    requires some { 0 < length (list_in _layout bytes.now) }
+    ensures { result.now ≡ written _layout (list_in _layout bytes.now) }
+{
+    bytes
+}
+
 impl<'b, T: ZvKind> KvSlice<'b, T> {
     ghost use Rattle.zv_map.specs.Views.{bytes_of, list_of};
 
@@ -121,27 +131,27 @@ impl<'b, T: ZvKind> KvSlice<'b, T> {
     #[inline]
     pub fn of_valid(raw: RawView<'b>) -> Self
         requires usable { IsTrue T.usable }
-        requires spells { IsTrue (spells_in raw.form T.fault raw.bytes.now) }
+        requires spells { IsTrue (spells_in raw.layout T.fault raw.bytes.now) }
         ensures bytes { bytes_of result ≡ raw.entry.bytes.now }
-        ensures form { result.form ≡ raw.entry.form }
+        ensures layout { result.layout ≡ raw.entry.layout }
     {
         KvSlice {
             bytes: raw.bytes,
-            form: raw.form,
+            layout: raw.layout,
             of: PhantomData,
         }
     }
 
-    /// The same bytes and form, without their kind.
+    /// The same bytes and layout, without their kind.
     #[inline]
     pub fn raw(self) -> RawView<'b>
         ensures bytes { result.bytes.now ≡ bytes_of self.entry }
-        ensures form { result.form ≡ self.entry.form }
-        ensures spells { IsTrue (spells_in result.form T.fault result.bytes.now) }
+        ensures layout { result.layout ≡ self.entry.layout }
+        ensures spells { IsTrue (spells_in result.layout T.fault result.bytes.now) }
     {
         RawView {
             bytes: self.bytes,
-            form: self.form,
+            layout: self.layout,
         }
     }
 
@@ -149,17 +159,17 @@ impl<'b, T: ZvKind> KvSlice<'b, T> {
     #[inline]
     pub fn bytes(self) -> &'b [u8]
         ensures bytes { result.now ≡ bytes_of self.entry }
-        ensures spells { IsTrue (spells_in self.entry.form T.fault result.now) }
+        ensures spells { IsTrue (spells_in self.entry.layout T.fault result.now) }
     {
         self.bytes
     }
 
     /// How the bytes spell the list.
     #[inline]
-    pub fn form(self) -> Form
-        ensures { result ≡ self.entry.form }
+    pub fn layout(self) -> Layout
+        ensures { result ≡ self.entry.layout }
     {
-        self.form
+        self.layout
     }
 
     /// How many elements there are.
@@ -167,10 +177,10 @@ impl<'b, T: ZvKind> KvSlice<'b, T> {
     pub fn len(self) -> usize
         ensures { result ≡ length (list_of self.entry) }
     {
-        match self.form {
-            Form::Fixed(width) => chunk_count(self.bytes, width),
-            Form::Index16 => VarZeroSlice::<T, Index16>::of_valid(self.bytes).len(),
-            Form::Index32 => VarZeroSlice::<T, Index32>::of_valid(self.bytes).len(),
+        match self.layout {
+            Layout::Fixed(width) => chunk_count(self.bytes, width),
+            Layout::Index16 => VarZeroSlice::<T, Index16>::of_valid(self.bytes).len(),
+            Layout::Index32 => VarZeroSlice::<T, Index32>::of_valid(self.bytes).len(),
         }
     }
 
@@ -188,10 +198,10 @@ impl<'b, T: ZvKind> KvSlice<'b, T> {
     pub fn get(self, index: usize) -> Option<VarRef<'b, T>>
         ensures { option_map element_of result ≡ slice_get (list_of self.entry) index }
     {
-        match self.form {
-            Form::Fixed(width) => chunk_element(self.bytes, width, index),
-            Form::Index16 => VarZeroSlice::<T, Index16>::of_valid(self.bytes).get(index),
-            Form::Index32 => VarZeroSlice::<T, Index32>::of_valid(self.bytes).get(index),
+        match self.layout {
+            Layout::Fixed(width) => chunk_element(self.bytes, width, index),
+            Layout::Index16 => VarZeroSlice::<T, Index16>::of_valid(self.bytes).get(index),
+            Layout::Index32 => VarZeroSlice::<T, Index32>::of_valid(self.bytes).get(index),
         }
     }
 
@@ -207,7 +217,20 @@ impl<'b, T: ZvKind> KvSlice<'b, T> {
         }
     }
 
-    /// Whether two lists have the same elements, each the same bytes, whatever their forms.
+    /// The bytes that the list is written as in the view's layout: all of them, but none where the
+    /// list is empty.
+    #[inline]
+    pub(crate) fn written(self) -> &'b [u8]
+        ensures { result.now ≡ written self.entry.layout (list_of self.entry) }
+    {
+        if self.is_empty() {
+            &[]
+        } else {
+            encoding::<T>(self.layout, self.bytes)
+        }
+    }
+
+    /// Whether two lists have the same elements, each the same bytes, whatever their layouts.
     pub fn same(self, other: KvSlice<'_, T>) -> bool
         ensures { IsTrue result ↔ (list_of self.entry ≡ list_of other.entry) }
     {
@@ -227,11 +250,11 @@ impl<'b, T: ZvKind> KvSlice<'b, T> {
 impl<T: ZvKind> ZeroVecLike<T> for KvSlice<'_, T> {
     ghost use Rattle.zv_map.specs.Views.{bytes_of, list_of};
 
-    ghost list = { λ v. list_in v.form v.bytes.now };
+    ghost list = { λ v. list_in v.layout v.bytes.now };
 
     ghost bytes = { λ v. v.bytes.now };
 
-    ghost form = { λ v. v.form };
+    ghost layout = { λ v. v.layout };
 
     #[inline]
     fn zvl_new_borrowed() -> KvSlice<'static, T>
@@ -241,7 +264,7 @@ impl<T: ZvKind> ZeroVecLike<T> for KvSlice<'_, T> {
     {
         KvSlice {
             bytes: &[],
-            form: Form::Index16,
+            layout: Layout::Index16,
             of: PhantomData,
         }
     }

@@ -1,18 +1,18 @@
 -- The room that a change of a map needs, and what a change leaves of a map.
-use Rattle.std.specs.Prelude.{◌≡◌, ℕ, ◌≤◌, true}
-use Rattle.zv_map.specs.Vectors.{CanGrow, KeepsItsRoom}
-use Rattle.zv_map1.specs.Views.{Map1, Vector}
-
--- the same bytes, which may have become owned, and can grow by no less
-pub record IsSameVector (before after : Vector) : Type 0 where
-  pub bytes : after.bytes ≡ before.bytes
-  pub spare : before.spare ≤ after.spare
+use Rattle.std.specs.Prelude.{◌≡◌, ℕ, true}
+use Rattle.zv_map.specs.Vectors.{CanGrow, IsSameVector, KeepsItsRoom, StaysOwned}
+use Rattle.zv_map1.specs.Views.{Map1}
 
 -- the same pairs in the same bytes, whose vectors may have become owned and can grow by no less
 pub record IsSameMap (before after : Map1) : Type 0 where
   pub pairs : after.pairs ≡ before.pairs
   pub keys : IsSameVector before.keys after.keys
   pub values : IsSameVector before.values after.values
+
+-- what of both vectors was owned or ready still is
+pub record KeepsOwned (before after : Map1) : Type 0 where
+  pub keys : StaysOwned before.keys after.keys
+  pub values : StaysOwned before.values after.values
 
 -- both vectors own their bytes, and can grow by so many of them without memory
 pub record CanGrowBy (key_bytes value_bytes : ℕ) (m : Map1) : Type 0 where

@@ -1,15 +1,10 @@
 -- What a map stands for.
 use Rattle.std.specs.Prelude.{◌≡◌, Bool, IsTrue, List, length}
 use Rattle.std.specs.List.Sorted.{IsStrictlySortedBy}
-use Rattle.std.specs.declared.cmp.Ordering.{Ordering}
-pub use Rattle.zv_map.specs.Keys.{Bytes, IsElementOf, nth}
+pub use Rattle.zv_map.specs.Keys.{Bytes, IsElementOf, Order, nth}
 pub use Rattle.zv_map.specs.Maps.{IsMap, insert_entry, keys_of, look_up, set_value_at, values_of}
 pub use Rattle.zv_map.specs.Maps.{without_key}
 pub use Rattle.zv_map.specs.Vectors.{Vector}
-
--- an order of keys
-abbrev pub Order : Type 0
-Order = Bytes → Bytes → Ordering
 
 -- pairs of a key and its value
 abbrev pub Pairs : Type 0

@@ -7,7 +7,7 @@ ghost use Rattle.zv_map.specs.declared.error.MapError.{MapError};
 ghost use Rattle.zv_map1.specs.Appends.{appended, is_above};
 ghost use Rattle.zv_map1.specs.Building.{TooLargeOrMemory, all_fit, insert_all, written};
 ghost use Rattle.zv_map1.specs.Fits.{fits, pair_fits, rule_of};
-ghost use Rattle.zv_map1.specs.Room.{IsSameMap};
+ghost use Rattle.zv_map1.specs.Room.{IsSameMap, KeepsOwned};
 ghost use Rattle.zv_map1.specs.Views.{insert_entry, keys_of, look_up};
 ghost use Rattle.zv_ule.specs.Search.{IsGap, compared};
 
@@ -64,6 +64,7 @@ impl<
         ensures same { IfOk result (λ o. IfSome o (λ p. (p.0.now ≡ key.now)
             × (p.1.now ≡ value.now))) }
         ensures kept { IfOk result (λ o. IfSome o (λ _. self.new ≡ self.old)) }
+        ensures owned { OnOk result (KeepsOwned self.old self.new) }
         ensures err { OnErr result (IsSameMap self.old self.new) }
         ensures unchanged { IfErr result (λ e. (e ≡ MapError.Memory → ⊥) → self.new ≡ self.old) }
         ensures refused { TooLargeUnless
@@ -153,6 +154,7 @@ impl<
             (Q.bytes key.now) (E.spelling value.now)) }
         ensures before { IfOk result (λ old. option_map D.OwnedType.bytes old
             ≡ look_up K.cmp self.old.pairs (Q.bytes key.now)) }
+        ensures owned { OnOk result (KeepsOwned self.old self.new) }
         ensures err { OnErr result (IsSameMap self.old self.new) }
         ensures unchanged { IfErr result (λ e. (e ≡ MapError.Memory → ⊥) → self.new ≡ self.old) }
         ensures refused { TooLargeUnless (E.fits value.now &&

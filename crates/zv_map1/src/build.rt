@@ -126,11 +126,13 @@ impl<
         self.reserve_bytes(alloc, keys, values)
     }
 
-    /// A map with the same pairs, bytes and variants of its vectors.
+    /// A map with the same pairs, bytes, layouts and variants of its vectors.
     pub fn clone(&self, alloc: Global) -> Result<Self, NoMemory>
         ensures pairs { IfOk result (λ m. m.pairs ≡ self.now.pairs) }
         ensures keys { IfOk result (λ m. m.keys.bytes ≡ self.now.keys.bytes) }
         ensures values { IfOk result (λ m. m.values.bytes ≡ self.now.values.bytes) }
+        ensures layouts { IfOk result (λ m. (m.keys.layout ≡ self.now.keys.layout)
+            × (m.values.layout ≡ self.now.values.layout)) }
         ensures owned { IfOk result (λ m. (m.keys.owned ≡ self.now.keys.owned)
             × (m.values.owned ≡ self.now.values.owned)) }
     {
@@ -142,11 +144,11 @@ impl<
     }
 
     /// The map that is viewed, which borrows its bytes, or `None` where a vector has bytes and a
-    /// form that isn't its container's.
+    /// layout that isn't its container's.
     pub fn from_borrowed(b: ZeroMapBorrowed<'a, K, V>) -> Option<Self>
         ensures fits { is_some result ≡
-            ((length (bytes_of b.entry.keys) == 0 || C.has_form b.entry.keys.form)
-            && (length (bytes_of b.entry.values) == 0 || D.has_form b.entry.values.form)) }
+            ((length (bytes_of b.entry.keys) == 0 || C.has_layout b.entry.keys.layout)
+            && (length (bytes_of b.entry.values) == 0 || D.has_layout b.entry.values.layout)) }
         ensures pairs { IfSome result (λ m. m.pairs ≡ pairs_of b.entry) }
         ensures keys { IfSome result (λ m. m.keys.bytes ≡ bytes_of b.entry.keys) }
         ensures values { IfSome result (λ m. m.values.bytes ≡ bytes_of b.entry.values) }

@@ -1,6 +1,6 @@
 // Changes of a map's two vectors.
 ghost use Rattle.std.specs.Prelude.{◌≡◌, ◌+◌, ◌^◌, ◌<◌, ◌≤◌, ◌&&◌, ◌||◌, IfErr, IfOk, OnErr, OnOk};
-ghost use Rattle.std.specs.Prelude.{None, Some, length, option_map};
+ghost use Rattle.std.specs.Prelude.{None, Some, is_ok, length, option_map, true};
 ghost use Rattle.std.specs.List.{remove};
 ghost use Rattle.zv_map.specs.Refusals.{TooLargeUnless};
 ghost use Rattle.zv_map.specs.Reserved.{IsTaken};
@@ -8,7 +8,7 @@ ghost use Rattle.zv_map.specs.declared.error.MapError.{MapError};
 ghost use Rattle.zv_ule.specs.Search.{IsGap, compared};
 ghost use Rattle.zv_map1.specs.Fits.{fits, pair_fits, rule_of};
 ghost use Rattle.zv_map1.specs.Outcomes.{Inserts};
-ghost use Rattle.zv_map1.specs.Room.{CanGrowBy, IsOwned, IsSameMap};
+ghost use Rattle.zv_map1.specs.Room.{CanGrowBy, IsOwned, IsSameMap, KeepsOwned};
 ghost use Rattle.zv_map1.specs.Views.{insert_entry, keys_of, look_up, nth, set_value_at, values_of};
 ghost use Rattle.zv_map1.specs.Views.{without_key};
 
@@ -83,8 +83,9 @@ impl<
             self.old.pairs (Q.bytes key.now) (R.bytes value.now)) }
         requires room { CanGrowBy (length (Q.bytes key.now) + C.field)
             (length (R.bytes value.now) + D.field) self.old }
-        ensures { self.new.pairs ≡ insert_entry K.cmp self.old.pairs (Q.bytes key.now)
+        ensures pairs { self.new.pairs ≡ insert_entry K.cmp self.old.pairs (Q.bytes key.now)
             (R.bytes value.now) }
+        ensures owned { KeepsOwned self.old self.new }
     {
         self.keys.zvl_insert_reserved(at, key);
         self.values.zvl_insert_reserved(at, value);
@@ -157,6 +158,7 @@ impl<
             (Q.bytes key.now) (R.bytes value.now)) }
         ensures before { IfOk result (λ old. option_map D.OwnedType.bytes old
             ≡ look_up K.cmp self.old.pairs (Q.bytes key.now)) }
+        ensures owned { OnOk result (KeepsOwned self.old self.new) }
         ensures err { OnErr result (IsSameMap self.old self.new) }
         ensures unchanged { IfErr result (λ e. (e ≡ MapError.Memory → ⊥) → self.new ≡ self.old) }
         ensures refused { TooLargeUnless
@@ -176,7 +178,8 @@ impl<
     fn remove_at(&mut self, at: usize)
         requires at { at < length self.old.pairs }
         requires owned { IsOwned self.old }
-        ensures { self.new.pairs ≡ remove self.old.pairs at }
+        ensures pairs { self.new.pairs ≡ remove self.old.pairs at }
+        ensures owned { KeepsOwned self.old self.new }
     {
         self.keys.zvl_discard(at);
         self.values.zvl_discard(at);
@@ -197,6 +200,7 @@ impl<
         ensures pairs { OnOk result (self.new.pairs ≡ remove self.old.pairs at) }
         ensures before { IfOk result (λ old. D.OwnedType.bytes old
             ≡ nth (values_of self.old.pairs) at) }
+        ensures owned { OnOk result (KeepsOwned self.old self.new) }
         ensures err { OnErr result (IsSameMap self.old self.new) }
     {
         let old = self.values.zvl_get_owned(alloc, at)?;
@@ -206,7 +210,7 @@ impl<
     }
 
     /// Takes a key out, and gives back the value that it had. After `NoMemory` the map is the same,
-    /// though its vectors may have become its own.
+    /// though its vectors may have become its own. Where the key isn't there, nothing is done.
     ///
     /// # Cost
     /// One search. All memory is taken before the first change; each vector then moves what stands
@@ -221,6 +225,9 @@ impl<
             (Q.bytes key.now)) }
         ensures before { IfOk result (λ old. option_map D.OwnedType.bytes old
             ≡ look_up K.cmp self.old.pairs (Q.bytes key.now)) }
+        ensures owned { OnOk result (KeepsOwned self.old self.new) }
+        ensures absent { look_up K.cmp self.old.pairs (Q.bytes key.now) ≡ None →
+            (is_ok result ≡ true) × (self.new ≡ self.old) }
         ensures err { OnErr result (IsSameMap self.old self.new) }
     {
         let Ok(at) = self.place(key) else {

@@ -46,24 +46,15 @@ pub type ZeroMap<'a, K, V> = MapOver<
 
 impl<K: ZvOrd, V: ZvKind, C: ZvContainer<K>, D: ZvContainer<V>> Model for MapOver<K, V, C, D> {
     ghost use Rattle.std.specs.Prelude.{zip};
+    ghost use Rattle.zv_map.specs.Vectors.{vector_of};
     ghost use Rattle.zv_map1.specs.Views.{AreColumns, Map1};
 
     ghost Value = { Map1 };
 
     ghost view = { λ m. record {
       pairs = zip (C.list m.keys) (D.list m.values);
-      keys = record {
-        bytes = C.bytes m.keys;
-        spare = C.spare m.keys;
-        owned = C.owned m.keys;
-        ready = C.ready m.keys;
-      };
-      values = record {
-        bytes = D.bytes m.values;
-        spare = D.spare m.values;
-        owned = D.owned m.values;
-        ready = D.ready m.values;
-      };
+      keys = vector_of C.bytes C.layout C.spare C.owned C.ready m.keys;
+      values = vector_of D.bytes D.layout D.spare D.owned D.ready m.values;
     } };
 
     ghost invariant = { λ m. AreColumns K.usable V.usable K.cmp (C.list m.keys)
@@ -107,7 +98,7 @@ impl<K: ZvOrd, V: ZvKind, C: ZvContainer<K>, D: ZvContainer<V>> MapOver<K, V, C,
         ensures ascending { IsMap K.cmp self.now.pairs }
         ensures keys { AllByRecursion (IsElementOf K.fault) (keys_of self.now.pairs) }
     {
-        elements_are_valid::<K, C>(self.keys.zvl_bytes());
+        elements_are_valid(self.keys.zvl_as_borrowed());
     }
 
     /// The keys' vector.
@@ -136,8 +127,10 @@ impl<K: ZvOrd, V: ZvKind, C: ZvContainer<K>, D: ZvContainer<V>> MapOver<K, V, C,
         ensures pairs { pairs_of result ≡ self.now.pairs }
         ensures keys { bytes_of result.keys ≡ self.now.keys.bytes }
         ensures values { bytes_of result.values ≡ self.now.values.bytes }
-        ensures fits { (C.has_form result.keys.form ≡ true)
-            × (D.has_form result.values.form ≡ true) }
+        ensures layouts { (result.keys.layout ≡ self.now.keys.layout)
+            × (result.values.layout ≡ self.now.values.layout) }
+        ensures fits { (C.has_layout result.keys.layout ≡ true)
+            × (D.has_layout result.values.layout ≡ true) }
     {
         ZeroMapBorrowed::of_valid(self.keys.zvl_as_borrowed(), self.values.zvl_as_borrowed())
     }

@@ -20,12 +20,16 @@ module _ {X : Type 0} (m : List (Bytes × X)) where
       let gap = found.1 rises in
       grind (arith, gap.less j, gap.greater j, answer_is answer j h, length-map (keys_of m) answer, length-map m (λ e. e.0))
 
+  -- the answer at the key of a place that was found
+  pub key_answered : (answer : Bytes → Ordering) (i : ℕ) → Found (map answer (keys_of m)) (Ok i) → answer (nth (keys_of m) i) ≡ Equal
+  key_answered answer i found =
+      let within : i < length m = omega (arith, found.within, length-map (keys_of m) answer, length-map m (λ e. e.0)) in
+      sym (answer_is answer i within) ∙ found.equal
+
   -- what was found at a place
   pub one_by : (answer : Bytes → Ordering) (i : ℕ) (x : X) → Found (map answer (keys_of m)) (Ok i) → slice_get (values_of m) i ≡ Some x →
       FoundBy answer m (Some x)
-  one_by answer i x found there =
-      let within : i < length m = omega (arith, found.within, length-map (keys_of m) answer, length-map m (λ e. e.0)) in
-      (i, sym (answer_is answer i within) ∙ found.equal, there)
+  one_by answer i x found there = (i, key_answered answer i found, there)
 
   -- or nothing
   pub some_by : {A : Type 0} (f : A → X) (answer : Bytes → Ordering) (i : ℕ) (o : Option A) → Found (map answer (keys_of m)) (Ok i) → i < length (values_of m) →

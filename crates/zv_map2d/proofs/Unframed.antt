@@ -1,7 +1,7 @@
 -- Images: from the bytes to the parts, and to the map that they stand for.
-use Rattle.zv_map2d.proofs.Common.{◌≡◌, ℕ, ◌≤◌, List, ◌++◌, length, take, drop, Option, Some, None, sym, ◌∙◌, ap, subst, arith, Result, Ok, Err, append-nil}
-use Rattle.zv_map2d.proofs.Common.{nil_from_length, take-append-drop, option_and_then_some, flat_map, IsBytes, le, number, elements, list_fault, Part}
-use Rattle.zv_map2d.proofs.Common.{lists_read, read_fault, rows_read, Bytes, ends, Map2d, parts_of, append_assoc, length-take-le}
+use Rattle.zv_map2d.proofs.Common.{◌≡◌, ℕ, ◌<◌, ◌≤◌, List, ◌++◌, length, take, drop, Option, Some, None, sym, ◌∙◌, ap, subst, arith, Result, Ok, Err}
+use Rattle.zv_map2d.proofs.Common.{append-nil, nil_from_length, take-append-drop, option_and_then_some, flat_map, IsBytes, le, number, elements, list_fault}
+use Rattle.zv_map2d.proofs.Common.{Part, lists_read, read_fault, rows_read, Bytes, ends, Map2d, parts_of, append_assoc, length-take-le}
 use Rattle.std.proofs.lemmas.Cmp.{nat_list_cmp_total as total}
 use Rattle.std.specs.Result.{result_err, IfOk}
 use Rattle.zv_ule.proofs.Fields.{le-number_at}
@@ -12,7 +12,13 @@ use Rattle.zv_var.proofs.Read.{Part_from_fault, valid_from_fault}
 use Rattle.zv_var.specs.Frame.{framed, first_part}
 use Rattle.zv_var.specs.Laws.{AreValid}
 use Rattle.zv_map2d.specs.Frame.{Parts, frame, unframe}
-use Rattle.zv_map2d.specs.Image.{by_bytes, bytes_fault, texts_to_bytes, var_list, Stands, fault}
+use Rattle.zv_map.specs.Layouts.{field_width, written}
+use Rattle.zv_map.specs.declared.view.Layout.{Layout}
+use Rattle.zv_map.specs.declared.view.Layout.TheVariants.{Fixed, Index16, Index32}
+use Rattle.zv_var.specs.Format.{enc}
+use Rattle.zv_map2d.specs.Image.{by_bytes, bytes_fault, spelling, texts_to_bytes, var_list, Stands, fault}
+use Rattle.zv_map2d.specs.Views.{AreInLayouts, written_of}
+use Rattle.zv_map2d.proofs.Common.{◌==◌, true, refl, firsts, seconds, values}
 use Rattle.zv_map2d.specs.declared.error.EditError.{EditError}
 use Rattle.zv_map2d.proofs.Numbers.{joiner_written}
 use Rattle.zv_map2d.proofs.Parsed.{held_lists}
@@ -57,19 +63,19 @@ frame-unframe b p h e =
     subst (λ (x : Parts). (b ≡ frame x) × AreBytes x) same (whole, record { keys0 = k0.part; joiner = k1.part; keys1 = k2.part; values = k3.part })))))
 
 -- a part without a fault spells the elements that are read of it, which are valid
-spelled : (fault : Bytes → Option UleError) (b : List ℕ) {xs : List Bytes} → IsBytes b → (var_list fault).fault b ≡ None → elements 2 b ≡ xs →
-    Part 2 b xs × AreValid fault xs
-spelled fault b bytes none e =
-    let k : list_fault 2 fault b ≡ None = grind arith in
-    rw (← e) (Part_from_fault 2 fault b (omega arith) bytes k, valid_from_fault 2 fault b (omega arith) bytes k)
+spelled : (w : ℕ) (fault : Bytes → Option UleError) (b : List ℕ) {xs : List Bytes} → 0 < w → IsBytes b → (var_list w fault).fault b ≡ None →
+    elements w b ≡ xs → Part w b xs × AreValid fault xs
+spelled w fault b some bytes none e =
+    let k : list_fault w fault b ≡ None = grind arith in
+    rw (← e) (Part_from_fault w fault b some bytes k, valid_from_fault w fault b some bytes k)
 
 -- parts of bytes that are read without a fault are those of a map
 pub parts_stand : (image : List ℕ) (p : Parts) → image ≡ frame p → AreBytes p → read_fault texts_to_bytes p ≡ None → Stands image (rows_read texts_to_bytes p)
 parts_stand image p h bytes e =
     let held = held_lists by_bytes by_bytes total total (lists_read texts_to_bytes p) (grind arith) in
-    let k0s = spelled text_fault p.keys0 bytes.keys0 (grind arith) held.0.firsts_are in
-    let k1s = spelled text_fault p.keys1 bytes.keys1 (grind arith) held.0.seconds_are in
-    let vs = spelled bytes_fault p.values bytes.values (grind arith) held.0.values_are in
+    let k0s = spelled 2 text_fault p.keys0 (omega arith) bytes.keys0 (grind arith) held.0.firsts_are in
+    let k1s = spelled 2 text_fault p.keys1 (omega arith) bytes.keys1 (grind arith) held.0.seconds_are in
+    let vs = spelled 2 bytes_fault p.values (omega arith) bytes.values (grind arith) held.0.values_are in
     let es = sym (joiner_written p.joiner bytes.joiner (grind arith)) in
     record {
       map = record { in_order = held.1; texts0 = k0s.1; texts1 = k1s.1 };
@@ -77,6 +83,18 @@ parts_stand image p h bytes e =
       formed = h;
       spelled = record { keys0 = k0s.0; joiner = rw (← held.0.ends_are) es; keys1 = k1s.0; values = vs.0 };
     }
+
+-- a layout with fields of two bytes is one
+narrow_written : (layout : Layout) (xs : List Bytes) → (field_width layout == 2) ≡ true → written layout xs ≡ enc 2 xs
+narrow_written (Fixed w) xs e = cc
+narrow_written Index16 xs e = refl
+narrow_written Index32 xs e = cc
+
+-- a map whose lists are in such layouts is written as its canonical image says
+pub texts_written : (m : Map2d) → AreInLayouts (λ l. field_width l == 2) (λ l. field_width l == 2) (λ l. field_width l == 2) m → written_of m ≡ spelling m.rows
+texts_written m h =
+    rw (narrow_written m.keys0.layout (firsts m.rows) h.keys0, narrow_written m.keys1.layout (seconds m.rows) h.keys1,
+    narrow_written m.values.layout (values m.rows) h.values) refl
 
 -- what reading the parts of an image gives
 module _ (image : List ℕ) (p : Parts) (bytes : IsBytes image) (e : Some p ≡ unframe image) where

@@ -1,11 +1,11 @@
 -- Which new values a map takes, by the size rules of its lists.
-use Rattle.std.specs.Prelude.{◌≡◌, ℕ, ◌+◌, Bool, true, ◌&&◌, List, length, Option, Some, None}
+use Rattle.std.specs.Prelude.{ℕ, ◌+◌, Bool, ◌&&◌, List, length, Option, Some, None}
 use Rattle.std.specs.declared.cmp.Ordering.{Ordering}
 use Rattle.zv_owned.specs.Size.{takes_insert, takes_replace}
 use Rattle.zv_map2d.specs.Keys.{Bytes, nth}
 use Rattle.zv_map.specs.Maps.{look_up, rank}
 use Rattle.zv_map2d.specs.Rows.{Rows, firsts, seconds, values, row, find, before}
-use Rattle.zv_map2d.specs.Image.{by_bytes}
+use Rattle.zv_map2d.specs.Image.{Widths, by_bytes, narrow}
 
 -- the size rules of a map's lists: whether an element of so many bytes may join the first keys, the
 -- second keys, the values, and whether one may stand in place of the value at a place
@@ -20,10 +20,6 @@ abbrev pub rule_of : (List Bytes → ℕ → Bool) → (List Bytes → ℕ → B
     (List Bytes → ℕ → ℕ → Bool) → Rule
 rule_of takes0 takes1 takes2 replaces =
     record { takes0 = takes0; takes1 = takes1; takes2 = takes2; replaces = replaces }
-
--- a list takes one element more, of so many bytes
-pub record IsTaken (takes : List Bytes → ℕ → Bool) (xs : List Bytes) (n : ℕ) : Type 0 where
-  pub taken : takes xs n ≡ true
 
 -- where the value of the pair of keys stands, or would stand, among the values
 abbrev pub place :
@@ -55,17 +51,25 @@ fits rule order0 order1 m k0 k1 v =
     fits_by (λ old. rule.replaces (values m) (place order0 order1 m k0 k1) (length v))
     rule order0 order1 m k0 k1 v
 
--- the size rules of a map from two texts to bytes, whose lists have fields of two bytes
-abbrev pub texts_rule : Rule
-texts_rule = record {
-  takes0 = takes_insert 2;
-  takes1 = takes_insert 2;
-  takes2 = takes_insert 2;
-  replaces = λ xs i n. takes_replace 2 xs (length (nth xs i)) n;
+-- the size rules of a map from two texts to bytes, whose lists have fields of these widths
+abbrev pub texts_rule_in : Widths → Rule
+texts_rule_in w = record {
+  takes0 = takes_insert w.keys0;
+  takes1 = takes_insert w.keys1;
+  takes2 = takes_insert w.values;
+  replaces = λ xs i n. takes_replace w.values xs (length (nth xs i)) n;
 }
 
--- v fits in a map from two texts to bytes, by the length of the old value
+-- v fits in such a map, by the length of the old value
+abbrev pub fits_texts_in : Widths → Rows → Bytes → Bytes → Bytes → Bool
+fits_texts_in w m k0 k1 v =
+    fits_by (λ old. takes_replace w.values (values m) (length old) (length v))
+    (texts_rule_in w) by_bytes by_bytes m k0 k1 v
+
+-- the size rules of a map from two texts to bytes
+abbrev pub texts_rule : Rule
+texts_rule = texts_rule_in narrow
+
+-- v fits in a map from two texts to bytes
 abbrev pub fits_texts : Rows → Bytes → Bytes → Bytes → Bool
-fits_texts m k0 k1 v =
-    fits_by (λ old. takes_replace 2 (values m) (length old) (length v))
-    texts_rule by_bytes by_bytes m k0 k1 v
+fits_texts m k0 k1 v = fits_texts_in narrow m k0 k1 v

@@ -26,14 +26,28 @@ by_bytes = slice_cmp nat_cmp
 abbrev pub bytes_fault : Bytes → Option UleError
 bytes_fault = chunks_fault TyName.U8 1 (λ b. None)
 
--- how a list with fields of two bytes is read, of elements for which `fault` has no error
-abbrev pub var_list : (Bytes → Option UleError) → Reading
-var_list fault = reading (λ b. slice_fault (list_fault 2 fault b)) (elements 2)
+-- how many bytes the fields of a map's lists have: of its first keys, second keys and values
+pub record Widths : Type 0 where
+  pub keys0 : ℕ
+  pub keys1 : ℕ
+  pub values : ℕ
+
+-- two bytes each
+abbrev pub narrow : Widths
+narrow = record { keys0 = 2; keys1 = 2; values = 2 }
+
+-- how a list with fields of w bytes is read, of elements for which `fault` has no error
+abbrev pub var_list : ℕ → (Bytes → Option UleError) → Reading
+var_list w fault = reading (λ b. slice_fault (list_fault w fault b)) (elements w)
+
+-- how a map from two texts to bytes is read whose lists have fields of these widths
+abbrev pub texts_in : Widths → Readings
+texts_in w = readings (var_list w.keys0 text_fault) (var_list w.keys1 text_fault)
+    (var_list w.values bytes_fault) by_bytes by_bytes
 
 -- how a map from two texts to bytes is read
 abbrev pub texts_to_bytes : Readings
-texts_to_bytes =
-    readings (var_list text_fault) (var_list text_fault) (var_list bytes_fault) by_bytes by_bytes
+texts_to_bytes = texts_in narrow
 
 -- each is a text
 abbrev pub AreTexts : List Bytes → Type 0
@@ -45,19 +59,19 @@ pub record IsTextMap (m : Rows) : Type 0 where
   pub texts0 : AreTexts (firsts m)
   pub texts1 : AreTexts (seconds m)
 
--- the parts are spellings of the lists of the map
-pub record Spells (p : Parts) (m : Rows) : Type 0 where
-  pub keys0 : Part 2 p.keys0 (firsts m)
+-- the parts are spellings of the lists of the map, with fields of these widths
+pub record Spells (w : Widths) (p : Parts) (m : Rows) : Type 0 where
+  pub keys0 : Part w.keys0 p.keys0 (firsts m)
   pub joiner : p.joiner ≡ flat_map (le 4) (ends m)
-  pub keys1 : Part 2 p.keys1 (seconds m)
-  pub values : Part 2 p.values (values m)
+  pub keys1 : Part w.keys1 p.keys1 (seconds m)
+  pub values : Part w.values p.values (values m)
 
 -- the image stands for the map
 pub record Stands (image : List ℕ) (m : Rows) : Type 0 where
   pub map : IsTextMap m
   pub parts : Parts
   pub formed : image ≡ frame parts
-  pub spelled : Spells parts m
+  pub spelled : Spells narrow parts m
 
 -- why an image with these parts is refused, or one that is no frame
 abbrev pub fault_of : Option Parts → Option EditError
@@ -68,9 +82,13 @@ fault_of (Some p) = read_fault texts_to_bytes p
 abbrev pub fault : List ℕ → Option EditError
 fault image = fault_of (unframe image)
 
--- the parts of the map's canonical image: no bytes for an empty list
+-- the parts of a map whose lists have fields of these widths: no bytes for an empty list
+abbrev pub spelling_in : Widths → Rows → Parts
+spelling_in w m = written_parts (enc w.keys0) (enc w.keys1) (enc w.values) m
+
+-- the parts of the map's canonical image
 abbrev pub spelling : Rows → Parts
-spelling m = written_parts (enc 2) (enc 2) (enc 2) m
+spelling m = spelling_in narrow m
 
 -- the map's canonical image
 abbrev pub canon : Rows → List ℕ

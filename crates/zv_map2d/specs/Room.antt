@@ -1,8 +1,8 @@
 -- Changes of a map that take no memory: the room that they need, and what they leave of it.
 use Rattle.std.specs.Prelude.{◌≡◌, ◌≤◌, ℕ, ◌+◌, ◌*◌, length, true}
-pub use Rattle.zv_map.specs.Vectors.{CanGrow, Spends}
+pub use Rattle.zv_map.specs.Vectors.{CanGrow, IsSameVector, Spends, StaysOwned}
 use Rattle.zv_map2d.specs.Rows.{seconds}
-use Rattle.zv_map2d.specs.Views.{Map2d, parts_of}
+use Rattle.zv_map2d.specs.Views.{Map2d}
 
 -- each vector of a map owns its bytes, and can grow by so many of them without memory
 pub record CanGrowBy (bytes0 ends bytes1 bytes2 : ℕ) (m : Map2d) : Type 0 where
@@ -27,20 +27,28 @@ pub record IsOwned (m : Map2d) : Type 0 where
   pub keys1 : m.keys1.owned ≡ true
   pub values : m.values.owned ≡ true
 
+-- what of every vector was owned or ready still is
+pub record KeepsOwned (before after : Map2d) : Type 0 where
+  pub keys0 : StaysOwned before.keys0 after.keys0
+  pub joiner : StaysOwned before.joiner after.joiner
+  pub keys1 : StaysOwned before.keys1 after.keys1
+  pub values : StaysOwned before.values after.values
+
 -- so many puts, whose elements have these lengths in sum, spend no more of each vector of a map
--- than their elements take; there are at most so many pairs more
+-- than their elements take; there are at most so many pairs more, and what was owned or ready
+-- still is
 pub record SpendsFor (w0 w1 w2 bytes0 bytes1 bytes2 puts : ℕ) (before after : Map2d) : Type 0 where
   pub keys0 : Spends (bytes0 + w0 * puts) before.keys0 after.keys0
   pub joiner : Spends (4 * puts) before.joiner after.joiner
   pub keys1 : Spends (bytes1 + w1 * puts) before.keys1 after.keys1
   pub values : Spends (bytes2 + w2 * puts) before.values after.values
   pub pairs : length (seconds after.rows) ≤ length (seconds before.rows) + puts
+  pub stays : KeepsOwned before after
 
 -- the same map in the same bytes, whose vectors may have become owned and can grow by no less
 pub record IsSameMap (before after : Map2d) : Type 0 where
   pub rows : after.rows ≡ before.rows
-  pub parts : parts_of after ≡ parts_of before
-  pub keys0 : before.keys0.spare ≤ after.keys0.spare
-  pub joiner : before.joiner.spare ≤ after.joiner.spare
-  pub keys1 : before.keys1.spare ≤ after.keys1.spare
-  pub values : before.values.spare ≤ after.values.spare
+  pub keys0 : IsSameVector before.keys0 after.keys0
+  pub joiner : IsSameVector before.joiner after.joiner
+  pub keys1 : IsSameVector before.keys1 after.keys1
+  pub values : IsSameVector before.values after.values

@@ -1,12 +1,14 @@
 -- What is seen of a map.
-use Rattle.std.specs.Prelude.{◌≡◌, ℕ, Bool, false, List, [], IsTrue, Option, None, map}
+use Rattle.std.specs.Prelude.{◌≡◌, ℕ, Bool, false, true, List, [], IsTrue, Option, map}
 use Rattle.std.specs.List.{flat_map, range_with_len}
 use Rattle.zv_ule.specs.Bytes.{le}
 use Rattle.zv_ule.specs.declared.error.UleError.{UleError}
 use Rattle.zv_map2d.specs.Frame.{Parts}
 use Rattle.zv_map2d.specs.Keys.{Bytes, nth}
 use Rattle.zv_map2d.specs.Rows.{Rows, firsts, seconds, values, ends, rows_of, row_at, IsFlat}
+use Rattle.zv_map.specs.Layouts.{list_in, spells_in, written}
 pub use Rattle.zv_map.specs.Vectors.{Vector, KeepsItsRoom}
+use Rattle.zv_map.specs.declared.view.Layout.{Layout}
 use Rattle.zv_map2d.specs.declared.parts.Parts.{Parts as PartsRead}
 
 -- a map: its rows, and its vectors
@@ -65,20 +67,33 @@ abbrev pub HasNoSpare : Map2d → Type 0
 HasNoSpare m = (m.keys0.spare ≡ 0) × (m.joiner.spare ≡ 0) × (m.keys1.spare ≡ 0)
     × (m.values.spare ≡ 0)
 
--- the same map in the same bytes, each vector borrowed or owned as it was
+-- the lists of the map are in layouts of which these tests say yes
+pub record AreInLayouts (has0 has1 has2 : Layout → Bool) (m : Map2d) : Type 0 where
+  pub keys0 : has0 m.keys0.layout ≡ true
+  pub keys1 : has1 m.keys1.layout ≡ true
+  pub values : has2 m.values.layout ≡ true
+
+-- the lists of two maps are in the same layouts
+pub record AreInLayoutsOf (m n : Map2d) : Type 0 where
+  pub keys0 : n.keys0.layout ≡ m.keys0.layout
+  pub keys1 : n.keys1.layout ≡ m.keys1.layout
+  pub values : n.values.layout ≡ m.values.layout
+
+-- the same map in the same bytes and layouts, each vector borrowed or owned as it was
 pub record IsCopy (before after : Map2d) : Type 0 where
   pub rows : after.rows ≡ before.rows
   pub parts : parts_of after ≡ parts_of before
+  pub layouts : AreInLayoutsOf before after
   pub keys0 : after.keys0.owned ≡ before.keys0.owned
   pub joiner : after.joiner.owned ≡ before.joiner.owned
   pub keys1 : after.keys1.owned ≡ before.keys1.owned
   pub values : after.values.owned ≡ before.values.owned
 
--- bytes have no fault, and are read as the list
-pub record ReadsAs (fault : List ℕ → Option UleError) (read : List ℕ → List Bytes)
-    (bytes : List ℕ) (xs : List Bytes) : Type 0 where
-  pub sound : fault bytes ≡ None
-  pub list : read bytes ≡ xs
+-- bytes spell the list in the layout, and each element is one by its fault
+pub record ReadsAs (layout : Layout) (fault : Bytes → Option UleError) (bytes : List ℕ)
+    (xs : List Bytes) : Type 0 where
+  pub sound : IsTrue (spells_in layout fault bytes)
+  pub list : list_in layout bytes ≡ xs
 
 -- each vector owns its bytes exactly if it did before, and can grow by as much at least
 pub record KeepsRoom (before after : Map2d) : Type 0 where
@@ -96,6 +111,11 @@ written_parts write0 write1 write2 m = record {
   keys1 = write1 (seconds m);
   values = write2 (values m);
 }
+
+-- the parts of a map whose lists are written in the layouts that they have
+abbrev pub written_of : Map2d → Parts
+written_of m =
+    written_parts (written m.keys0.layout) (written m.keys1.layout) (written m.values.layout) m.rows
 
 -- four lists of elements of usable kinds are those of the map that they stand for
 pub record AreColumns (usable0 usable1 usable2 : Bool) (k0s : List Bytes) (es : List ℕ)

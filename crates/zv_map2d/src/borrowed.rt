@@ -23,9 +23,9 @@ use zv_fixed::ZeroSlice;
 use zv_map::{KvSlice, ZeroVecLike, ZeroVecSearch};
 use zv_ule::{AsULE, Steps, UsableKind, VarRef, ZvKind, ZvOrd, ZvOrdArg};
 
-/// A map in two levels that borrows all its bytes, in whatever forms they are. It is copied freely,
-/// lives as long as the bytes, and takes no memory. Each read of a map in two levels is one of
-/// this.
+/// A map in two levels that borrows all its bytes, in whatever layouts they are. It is copied
+/// freely, lives as long as the bytes, and takes no memory. Each read of a map in two levels is one
+/// of this.
 pub struct ZeroMap2dBorrowed<'a, K0: ZvOrd, K1: ZvOrd, V: ZvKind> {
     pub(crate) keys0: KvSlice<'a, K0>,
     pub(crate) joiner: ZeroSlice<'a, u32>,

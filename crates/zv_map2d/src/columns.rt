@@ -8,8 +8,8 @@ ghost use Rattle.zv_map.specs.Maps.{IsAt, keys_of};
 ghost use Rattle.zv_map2d.specs.Elements.{AreElements};
 ghost use Rattle.zv_map2d.specs.Rows.{IsWell, before, ends, firsts, row_at, seconds};
 ghost use Rattle.zv_map2d.specs.Rows.{values};
-ghost use Rattle.zv_map2d.specs.Views.{KeepsRoom, ReadsAs, bytes_of, no_bytes, parts_of};
-ghost use Rattle.zv_map2d.specs.Views.{written_parts};
+ghost use Rattle.zv_map2d.specs.Views.{AreInLayouts, KeepsRoom, ReadsAs, bytes_of, no_bytes};
+ghost use Rattle.zv_map2d.specs.Views.{parts_of, written_of};
 
 use crate::borrowed::ZeroMap2dBorrowed;
 use crate::order::number_at;
@@ -47,6 +47,7 @@ impl<
     C1: ZvContainer<K1>,
     D: ZvContainer<V>,
 > Model for Columns<'a, K0, K1, V, C0, C1, D> {
+    ghost use Rattle.zv_map.specs.Vectors.{fixed_vector, vector_of};
     ghost use Rattle.zv_map2d.specs.Rows.{rows_of};
     ghost use Rattle.zv_map2d.specs.Views.{AreColumns, Map2d};
 
@@ -54,30 +55,10 @@ impl<
 
     ghost view = { λ m. record {
       rows = rows_of (C0.list m.keys0) m.joiner.values (C1.list m.keys1) (D.list m.values);
-      keys0 = record {
-        bytes = C0.bytes m.keys0;
-        spare = C0.spare m.keys0;
-        owned = C0.owned m.keys0;
-        ready = C0.ready m.keys0;
-      };
-      joiner = record {
-        bytes = m.joiner.bytes;
-        spare = m.joiner.spare;
-        owned = m.joiner.owned;
-        ready = m.joiner.owned;
-      };
-      keys1 = record {
-        bytes = C1.bytes m.keys1;
-        spare = C1.spare m.keys1;
-        owned = C1.owned m.keys1;
-        ready = C1.ready m.keys1;
-      };
-      values = record {
-        bytes = D.bytes m.values;
-        spare = D.spare m.values;
-        owned = D.owned m.values;
-        ready = D.ready m.values;
-      };
+      keys0 = vector_of C0.bytes C0.layout C0.spare C0.owned C0.ready m.keys0;
+      joiner = fixed_vector 4 m.joiner.bytes m.joiner.spare m.joiner.owned;
+      keys1 = vector_of C1.bytes C1.layout C1.spare C1.owned C1.ready m.keys1;
+      values = vector_of D.bytes D.layout D.spare D.owned D.ready m.values;
     } };
 
     ghost invariant = { λ m. AreColumns K0.usable K1.usable V.usable
@@ -113,7 +94,7 @@ impl<
     C1: ZvContainer<K1>,
     D: ZvContainer<V>,
 > Columns<'a, K0, K1, V, C0, C1, D> {
-    ghost use Rattle.zv_map2d.specs.Borrowed.{parts_in, rows_in};
+    ghost use Rattle.zv_map2d.specs.Borrowed.{AreTaken, IsViewedIn, parts_in, rows_in};
 
     /// How many rows there are.
     #[inline]
@@ -205,6 +186,8 @@ impl<
         requires { IsWell K0.cmp K1.cmp self.now.rows }
         ensures rows { rows_in result ≡ self.now.rows }
         ensures parts { parts_in result ≡ parts_of self.now }
+        ensures layouts { IsViewedIn self.now result }
+        ensures fits { AreTaken C0.has_layout C1.has_layout D.has_layout result }
     {
         ZeroMap2dBorrowed {
             keys0: self.keys0.zvl_as_borrowed(),
@@ -217,13 +200,14 @@ impl<
     /// The bytes of the four vectors.
     pub(crate) fn parts(&self) -> Parts<'_>
         ensures bytes { bytes_of result ≡ parts_of self.now }
-        ensures keys0 { ReadsAs C0.parse_fault C0.parse_list
-            result.keys0.now (firsts self.now.rows) }
+        ensures keys0 { ReadsAs self.now.keys0.layout K0.fault result.keys0.now
+            (firsts self.now.rows) }
         ensures joiner { result.joiner.now ≡ flat_map (le 4) (ends self.now.rows) }
-        ensures keys1 { ReadsAs C1.parse_fault C1.parse_list
-            result.keys1.now (seconds self.now.rows) }
-        ensures values { ReadsAs D.parse_fault D.parse_list
-            result.values.now (values self.now.rows) }
+        ensures keys1 { ReadsAs self.now.keys1.layout K1.fault result.keys1.now
+            (seconds self.now.rows) }
+        ensures values { ReadsAs self.now.values.layout V.fault result.values.now
+            (values self.now.rows) }
+        ensures layouts { AreInLayouts C0.has_layout C1.has_layout D.has_layout self.now }
     {
         Parts {
             keys0: self.keys0.zvl_bytes(),
@@ -238,14 +222,14 @@ impl<
     pub(crate) fn keys_are_valid(&self)
         ensures { AreElements K0.fault K1.fault self.now.rows }
     {
-        let all = self.parts();
-        elements_are_valid::<K0, C0>(all.keys0);
-        elements_are_valid::<K1, C1>(all.keys1);
+        elements_are_valid(self.keys0.zvl_as_borrowed());
+        elements_are_valid(self.keys1.zvl_as_borrowed());
     }
 
-    /// The bytes that the four lists are written as.
+    /// The bytes that the four lists are written as in their layouts.
     pub(crate) fn canon_parts(&self) -> Parts<'_>
-        ensures { bytes_of result ≡ written_parts C0.spelling C1.spelling D.spelling self.now.rows }
+        ensures written { bytes_of result ≡ written_of self.now }
+        ensures layouts { AreInLayouts C0.has_layout C1.has_layout D.has_layout self.now }
     {
         Parts {
             keys0: self.keys0.zvl_spelling(),

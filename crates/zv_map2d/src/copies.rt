@@ -1,7 +1,8 @@
 // Copies of a map, and its views that outlive it.
 ghost use Rattle.std.specs.Prelude.{◌≡◌, ◌↔◌, ◌&&◌, IsTrue, IfOk, IfSome, false, is_some, not};
+ghost use Rattle.std.specs.Prelude.{true};
 ghost use Rattle.zv_map.specs.Views.{bytes_of, list_of};
-ghost use Rattle.zv_map2d.specs.Borrowed.{is_taken, parts_in, rows_in};
+ghost use Rattle.zv_map2d.specs.Borrowed.{AreTaken, IsViewedIn, is_taken, parts_in, rows_in};
 ghost use Rattle.zv_map2d.specs.Rows.{IsWell};
 ghost use Rattle.zv_map2d.specs.Views.{IsBorrowed, IsCopy, parts_of};
 
@@ -20,15 +21,17 @@ fn inner_view<'a, T: ZvKind, C: MutableZeroVecLike<'a, T>>(list: &C) -> Option<K
     ensures borrowed { is_some result ≡ not (C.owned list.now) }
     ensures list { IfSome result (λ v. list_of v ≡ C.list list.now) }
     ensures bytes { IfSome result (λ v. bytes_of v ≡ C.bytes list.now) }
+    ensures layout { IfSome result (λ v. v.layout ≡ C.layout list.now) }
+    ensures fits { C.has_layout (C.layout list.now) ≡ true }
 {
     let raw = list.zvl_as_borrowed_inner()?;
     Some(KvSlice::of_valid(raw))
 }
 
-/// The list of a view, if the view is in a form of the list's container.
+/// The list of a view, if the view is in a layout of the list's container.
 #[inline]
 fn list_of_view<'a, T: ZvKind, C: MutableZeroVecLike<'a, T>>(view: KvSlice<'a, T>) -> Option<C>
-    ensures fits { is_some result ≡ is_taken C.has_form view.entry }
+    ensures fits { is_some result ≡ is_taken C.has_layout view.entry }
     ensures list { IfSome result (λ list. C.list list ≡ list_of view.entry) }
     ensures bytes { IfSome result (λ list. C.bytes list ≡ bytes_of view.entry) }
     ensures borrowed { IfSome result (λ list. C.owned list ≡ false) }
@@ -52,6 +55,8 @@ impl<
         ensures borrowed { IsTrue (is_some result) ↔ IsBorrowed self.now }
         ensures rows { IfSome result (λ b. rows_in b ≡ self.now.rows) }
         ensures parts { IfSome result (λ b. parts_in b ≡ parts_of self.now) }
+        ensures layouts { IfSome result (IsViewedIn self.now) }
+        ensures fits { IfSome result (AreTaken C0.has_layout C1.has_layout D.has_layout) }
     {
         let keys0 = inner_view::<K0, C0>(&self.keys0)?;
         let joiner = self.joiner.as_maybe_borrowed()?;
@@ -98,15 +103,17 @@ impl<
         ensures borrowed { IsTrue (is_some result) ↔ IsBorrowed self.now }
         ensures rows { IfSome result (λ b. rows_in b ≡ self.now.rows) }
         ensures parts { IfSome result (λ b. parts_in b ≡ parts_of self.now) }
+        ensures layouts { IfSome result (IsViewedIn self.now) }
+        ensures fits { IfSome result (AreTaken C0.has_layout C1.has_layout D.has_layout) }
     {
         self.columns.as_borrowed_inner()
     }
 
     /// The same map, with the same bytes, borrowed, or `None` where a view has bytes and isn't in a
-    /// form of its container.
+    /// layout of its container.
     pub fn from_borrowed(b: ZeroMap2dBorrowed<'a, K0, K1, V>) -> Option<Self>
-        ensures fits { is_some result ≡ (is_taken C0.has_form b.entry.keys0
-            && (is_taken C1.has_form b.entry.keys1 && is_taken D.has_form b.entry.values)) }
+        ensures fits { is_some result ≡ (is_taken C0.has_layout b.entry.keys0
+            && (is_taken C1.has_layout b.entry.keys1 && is_taken D.has_layout b.entry.values)) }
         ensures rows { IfSome result (λ m. m.rows ≡ rows_in b.entry) }
         ensures parts { IfSome result (λ m. parts_of m ≡ parts_in b.entry) }
         ensures borrowed { IfSome result IsBorrowed }

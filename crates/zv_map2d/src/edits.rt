@@ -10,7 +10,8 @@ ghost use Rattle.zv_map2d.specs.Outcomes.{Dels, Inserts, Puts};
 ghost use Rattle.zv_map2d.specs.Fits.{fits, rule_of};
 ghost use Rattle.zv_map2d.specs.Places.{IsPlace, del_at, find_at, fits_at, put_at};
 ghost use Rattle.zv_map2d.specs.Refusals.{RefusedUnless, is_full};
-ghost use Rattle.zv_map2d.specs.Room.{CanGrowBy, HasRoomFor, IsOwned, IsSameMap, SpendsFor};
+ghost use Rattle.zv_map2d.specs.Room.{CanGrowBy, HasRoomFor, IsOwned, IsSameMap};
+ghost use Rattle.zv_map2d.specs.Room.{KeepsOwned, SpendsFor};
 ghost use Rattle.zv_map2d.specs.Rows.{IsWell, before, del, find, firsts, put, row_at, seconds};
 ghost use Rattle.zv_map2d.specs.Rows.{values};
 
@@ -64,6 +65,8 @@ impl<
     /// Makes every vector own its bytes, with room for so many pairs whose lengths aren't known.
     pub(crate) fn reserve(&mut self, alloc: Global, additional: usize) -> Result<(), NoMemory>
         ensures same { IsSameMap self.old self.new }
+        ensures room { OnOk result (CanGrowBy (additional * C0.element_room) (additional * 4)
+            (additional * C1.element_room) (additional * D.element_room) self.new) }
     {
         let keys0 = additional
             .checked_mul(self.keys0.zvl_element_room())
@@ -523,6 +526,7 @@ impl<
         ensures rows { OnOk result (self.new.rows ≡ del_at self.old.rows (Place.Pair row pair)) }
         ensures before { IfOk result (λ old. Some (D.OwnedType.bytes old)
             ≡ find_at self.old.rows (Place.Pair row pair)) }
+        ensures stays { OnOk result (KeepsOwned self.old self.new) }
         ensures err { OnErr result (IsSameMap self.old self.new) }
     {
         let old = self.value_to_owned(alloc, row, pair)?;

@@ -13,6 +13,9 @@ use crate::parts::Parts;
 use zv_ule::{SliceULE, StrULE};
 use zv_var::frame::take_part;
 
+/// The map that an image stands for: from two texts to bytes.
+pub type ImageMap<'a> = ZeroMap2d<'a, StrULE, StrULE, SliceULE<u8>>;
+
 /// The four parts of an image: first keys, joiner, second keys, values, each after its length as
 /// eight bytes, the lowest first.
 ///
@@ -40,9 +43,7 @@ pub fn cut_parts(image: &[u8]) -> Option<Parts<'_>>
 ///
 /// The first cause in the order of [`EditError`]'s variants is told; it is never `Memory` or
 /// `Write`. It costs what [`parse_parts`](crate::Map2dOver::parse_parts) does and takes no memory.
-pub fn parse_image<'a>(
-    image: &'a [u8],
-) -> Result<ZeroMap2d<'a, StrULE, StrULE, SliceULE<u8>>, EditError>
+pub fn parse_image<'a>(image: &'a [u8]) -> Result<ImageMap<'a>, EditError>
     ensures error { result_err result ≡ fault image.now }
     ensures map { IfOk result (λ m. Stands image.now m.rows) }
     ensures parts { IfOk result (λ m. image.now ≡ frame (parts_of m)) }
@@ -52,10 +53,5 @@ pub fn parse_image<'a>(
     let Some(parts) = cut_parts(image) else {
         return Err(EditError::Frame);
     };
-    ZeroMap2d::<'a, StrULE, StrULE, SliceULE<u8>>::parse_parts(
-        parts.keys0,
-        parts.joiner,
-        parts.keys1,
-        parts.values,
-    )
+    ImageMap::<'a>::parse_parts(parts.keys0, parts.joiner, parts.keys1, parts.values)
 }

@@ -30,7 +30,7 @@ pub mod rows;
 pub use borrowed::ZeroMap2dBorrowed;
 pub use cursor::{Iter1, Iter1Copied, ZeroMap2dCursor};
 pub use error::{EditError, Map2dError};
-pub use image::{cut_parts, parse_image};
+pub use image::{ImageMap, cut_parts, parse_image};
 pub use map::{Map2dOver, ZeroMap2d};
 pub use parts::Parts;
 pub use place::Place;

@@ -1,17 +1,18 @@
 // A map in two levels.
-ghost use Rattle.std.specs.Prelude.{◌≡◌, ℕ, ◌==◌, ◌+◌, ◌^◌, ◌<◌, ◌&&◌, [], length, IsTrue, true};
-ghost use Rattle.std.specs.Prelude.{IfOk, IfErr, OnErr, OnOk, is_none, is_ok, is_some};
+ghost use Rattle.std.specs.Prelude.{◌≡◌, ℕ, ◌==◌, ◌+◌, ◌*◌, ◌^◌, ◌<◌, ◌&&◌, [], length, IsTrue};
+ghost use Rattle.std.specs.Prelude.{true, IfOk, IfErr, None, OnErr, OnOk, is_none, is_ok, is_some};
 ghost use Rattle.std.specs.Prelude.{nat_lt, option_map};
 ghost use Rattle.std.specs.List.{flat_map};
 ghost use Rattle.zv_ule.specs.Bytes.{le};
 ghost use Rattle.zv_map2d.specs.Elements.{AreElements};
 ghost use Rattle.zv_map2d.specs.Fits.{fits, rule_of};
-ghost use Rattle.zv_map2d.specs.Room.{HasRoomFor, IsOwned, IsSameMap, SpendsFor};
+ghost use Rattle.zv_map2d.specs.Room.{CanGrowBy, HasRoomFor, IsOwned, IsSameMap};
+ghost use Rattle.zv_map2d.specs.Room.{KeepsOwned, SpendsFor};
 ghost use Rattle.zv_map2d.specs.Refusals.{RefusedUnless, is_full};
 ghost use Rattle.zv_map2d.specs.Rows.{IsWell, del, ends, find, firsts, put, seconds};
 ghost use Rattle.zv_map2d.specs.Rows.{values};
-ghost use Rattle.zv_map2d.specs.Views.{HasNoSpare, IsBorrowed, KeepsRoom, ReadsAs};
-ghost use Rattle.zv_map2d.specs.Views.{bytes_of, no_bytes, parts_of, written_parts};
+ghost use Rattle.zv_map2d.specs.Views.{AreInLayouts, HasNoSpare, IsBorrowed, KeepsRoom};
+ghost use Rattle.zv_map2d.specs.Views.{ReadsAs, bytes_of, no_bytes, parts_of, written_of};
 
 use crate::columns::Columns;
 use crate::error::Map2dError;
@@ -97,21 +98,23 @@ impl<
     /// The bytes of the four vectors: those that were given, or as changes left them.
     pub fn parts(&self) -> Parts<'_>
         ensures bytes { bytes_of result ≡ parts_of self.now }
-        ensures keys0 { ReadsAs C0.parse_fault C0.parse_list result.keys0.now
+        ensures keys0 { ReadsAs self.now.keys0.layout K0.fault result.keys0.now
             (firsts self.now.rows) }
         ensures joiner { result.joiner.now ≡ flat_map (le 4) (ends self.now.rows) }
-        ensures keys1 { ReadsAs C1.parse_fault C1.parse_list result.keys1.now
+        ensures keys1 { ReadsAs self.now.keys1.layout K1.fault result.keys1.now
             (seconds self.now.rows) }
-        ensures values { ReadsAs D.parse_fault D.parse_list result.values.now
+        ensures values { ReadsAs self.now.values.layout V.fault result.values.now
             (values self.now.rows) }
+        ensures layouts { AreInLayouts C0.has_layout C1.has_layout D.has_layout self.now }
     {
         self.columns.parts()
     }
 
     /// The parts of the map's canonical image, which lie in the map's own bytes: what its lists
-    /// are written as.
+    /// are written as in their layouts.
     pub fn canon_parts(&self) -> Parts<'_>
-        ensures { bytes_of result ≡ written_parts C0.spelling C1.spelling D.spelling self.now.rows }
+        ensures written { bytes_of result ≡ written_of self.now }
+        ensures layouts { AreInLayouts C0.has_layout C1.has_layout D.has_layout self.now }
     {
         self.columns.canon_parts()
     }
@@ -235,6 +238,8 @@ impl<
         requires values { IsTrue V.usable }
         ensures rows { IfOk result (λ m. m.rows ≡ []) }
         ensures parts { IfOk result (λ m. parts_of m ≡ no_bytes) }
+        ensures room { IfOk result (CanGrowBy (capacity * C0.element_room) (capacity * 4)
+            (capacity * C1.element_room) (capacity * D.element_room)) }
     {
         let mut map = Self::new();
         map.reserve(alloc, capacity)?;
@@ -244,7 +249,9 @@ impl<
     /// Makes every vector own its bytes, with room for so many pairs more whose lengths aren't
     /// known: four bytes and the width of a field for an element of any length.
     pub fn reserve(&mut self, alloc: Global, additional: usize) -> Result<(), NoMemory>
-        ensures { IsSameMap self.old self.new }
+        ensures same { IsSameMap self.old self.new }
+        ensures room { OnOk result (CanGrowBy (additional * C0.element_room) (additional * 4)
+            (additional * C1.element_room) (additional * D.element_room) self.new) }
     {
         self.columns.reserve(alloc, additional)
     }
@@ -382,6 +389,7 @@ impl<
             (Q0.bytes key0.now) (Q1.bytes key1.now) (R.bytes value.now)) }
         ensures before { IfOk result (λ old. option_map D.OwnedType.bytes old
             ≡ find K0.cmp K1.cmp self.old.rows (Q0.bytes key0.now) (Q1.bytes key1.now)) }
+        ensures stays { OnOk result (KeepsOwned self.old self.new) }
         ensures err { OnErr result (IsSameMap self.old self.new) }
         ensures unchanged { IfErr result (λ e. (e ≡ Map2dError.Memory → ⊥) → self.new ≡ self.old) }
         ensures refused { RefusedUnless
@@ -396,7 +404,7 @@ impl<
 
     /// Takes a pair of keys out, with its row where that was its only pair, and gives back the
     /// value that it had. After `NoMemory` the map is the same, though its vectors may have become
-    /// its own.
+    /// its own. Where the pair isn't there, nothing is done.
     ///
     /// # Cost
     /// Two searches. All memory is taken before the first change; each vector that changes then
@@ -413,6 +421,9 @@ impl<
             ≡ del K0.cmp K1.cmp self.old.rows (Q0.bytes key0.now) (Q1.bytes key1.now)) }
         ensures before { IfOk result (λ old. option_map D.OwnedType.bytes old
             ≡ find K0.cmp K1.cmp self.old.rows (Q0.bytes key0.now) (Q1.bytes key1.now)) }
+        ensures stays { OnOk result (KeepsOwned self.old self.new) }
+        ensures absent { find K0.cmp K1.cmp self.old.rows (Q0.bytes key0.now) (Q1.bytes key1.now)
+            ≡ None → (is_ok result ≡ true) × (self.new ≡ self.old) }
         ensures err { OnErr result (IsSameMap self.old self.new) }
     {
         self.columns.remove(alloc, key0, key1)

@@ -5,12 +5,13 @@ ghost use Rattle.std.specs.Option.{option_map};
 ghost use Rattle.std.specs.Result.{result_err};
 ghost use Rattle.zv_fixed.specs.Views.{values_in};
 ghost use Rattle.zv_var.specs.Format.{pieces};
+ghost use Rattle.zv_map.specs.Vectors.{fixed_vector, vector_of};
 ghost use Rattle.zv_map2d.specs.Causes.{Lists, is_parts_cause, joiner_fault, last_ascending};
 ghost use Rattle.zv_map2d.specs.Causes.{lists_fault, numbers, read_fault, reading, readings};
 ghost use Rattle.zv_map2d.specs.Causes.{rows_read};
 ghost use Rattle.zv_map2d.specs.Frame.{Parts as PartsSeen};
 ghost use Rattle.zv_map2d.specs.Keys.{ascends};
-ghost use Rattle.zv_map2d.specs.Rows.{IsWell};
+ghost use Rattle.zv_map2d.specs.Rows.{IsWell, rows_of};
 ghost use Rattle.zv_map2d.specs.Views.{IsBorrowed, parts_of};
 ghost use Rattle.zv_map2d.specs.declared.error.EditError.TheVariants.{Ule};
 
@@ -122,10 +123,60 @@ impl<
     C1: MutableZeroVecLike<'a, K1> + Drop,
     D: MutableZeroVecLike<'a, V> + Drop,
 > Map2dOver<'a, K0, K1, V, C0, C1, D> {
+    /// The map of four vectors.
+    ///
+    /// `joiner` has for each row the number of pairs up to its end.
+    ///
+    /// # Errors
+    /// The first cause in the order of [`EditError`]'s variants from `Keys0Joiner` to `KeyOrder`.
+    /// The vectors are dropped then.
+    ///
+    /// # Cost
+    /// Each key is looked at once for its order. It takes no memory.
+    pub fn from_vecs(
+        keys0: C0,
+        joiner: ZeroVec<'a, u32>,
+        keys1: C1,
+        values: D,
+    ) -> Result<Self, EditError>
+        requires keys0 { IsTrue K0.usable }
+        requires keys1 { IsTrue K1.usable }
+        requires values { IsTrue V.usable }
+        ensures error { result_err result ≡ lists_fault K0.cmp K1.cmp (record {
+          keys0 = C0.list keys0;
+          joiner = joiner.entry.values;
+          keys1 = C1.list keys1;
+          values = D.list values;
+        }) }
+        ensures rows { IfOk result (λ m. m.rows
+            ≡ rows_of (C0.list keys0) joiner.entry.values (C1.list keys1) (D.list values)) }
+        ensures well { IfOk result (λ m. IsWell K0.cmp K1.cmp m.rows) }
+        ensures keys0 { IfOk result (λ m. m.keys0
+            ≡ vector_of C0.bytes C0.layout C0.spare C0.owned C0.ready keys0) }
+        ensures joiner { IfOk result (λ m. m.joiner
+            ≡ fixed_vector 4 joiner.entry.bytes joiner.entry.spare joiner.entry.owned) }
+        ensures keys1 { IfOk result (λ m. m.keys1
+            ≡ vector_of C1.bytes C1.layout C1.spare C1.owned C1.ready keys1) }
+        ensures values { IfOk result (λ m. m.values
+            ≡ vector_of D.bytes D.layout D.spare D.owned D.ready values) }
+        ensures cause { IfErr result (λ e. IsTrue (is_parts_cause e)) }
+    {
+        check_lists::<K0, K1, V, C0, C1, D>(&keys0, &joiner, &keys1, &values)?;
+        Ok(Map2dOver {
+            columns: Columns {
+                keys0,
+                joiner,
+                keys1,
+                values,
+                kinds: PhantomData,
+            },
+        })
+    }
+
     /// The map of four vectors, each given as its bytes, which the map keeps.
     ///
     /// `joiner` has for each row the number of pairs up to its end, as four bytes, the lowest
-    /// first. The other vectors are in the forms of their containers.
+    /// first. The other vectors are in the layouts of their containers.
     ///
     /// # Errors
     /// The first of these: the joiner's bytes are no numbers; a vector's own error, the first keys'
@@ -180,15 +231,6 @@ impl<
         let keys0 = read_list::<K0, C0>(keys0)?;
         let keys1 = read_list::<K1, C1>(keys1)?;
         let values = read_list::<V, D>(values)?;
-        check_lists::<K0, K1, V, C0, C1, D>(&keys0, &joiner, &keys1, &values)?;
-        Ok(Map2dOver {
-            columns: Columns {
-                keys0,
-                joiner,
-                keys1,
-                values,
-                kinds: PhantomData,
-            },
-        })
+        Self::from_vecs(keys0, joiner, keys1, values)
     }
 }

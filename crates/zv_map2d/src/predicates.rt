@@ -3,7 +3,8 @@ ghost use Rattle.std.specs.Prelude.{◌≡◌, ℕ, ◌<◌, List, length, map, 
 ghost use Rattle.std.specs.Fn.{ComputesKey};
 ghost use Rattle.std.specs.List.Sorted.{IsSearchInRange};
 ghost use Rattle.std.specs.declared.cmp.Ordering.{Ordering};
-ghost use Rattle.zv_ule.specs.Search.{AnsweredEqual, Found};
+ghost use Rattle.std.specs.declared.cmp.Ordering.TheVariants.{Equal};
+ghost use Rattle.zv_ule.specs.Search.{AnsweredEqual, ComesToEqual, Found};
 ghost use Rattle.zv_ule.specs.Views.{element_of};
 ghost use Rattle.zv_map.specs.Maps.{keys_of};
 ghost use Rattle.zv_map2d.specs.Predicates.{FoundBy, IsPicked};
@@ -29,6 +30,10 @@ impl<'b, K0: ZvOrd, K1: ZvOrd, V: ZvKind> ZeroMap2dBorrowed<'b, K0, K1, V> {
     ) -> Option<ZeroMap2dCursor<'b, 'a, K0, K1, V>>
         requires { P.IsAlwaysCallable predicate }
         ensures seen { IfSome result (λ c. c ≡ row_seen (rows_in self.now) c.place) }
+        ensures within { IfSome result (λ c. c.place < length (rows_in self.now)) }
+        ensures key { IfSome result (λ c. ComesToEqual P.FnMut predicate c.key) }
+        ensures answer { (answer : List ℕ → Ordering) → ComputesKey P.FnMut answer predicate →
+            IfSome result (λ c. answer c.key ≡ Equal) }
         ensures equal { IfSome result
             (λ c. IsPicked P.FnMut predicate (rows_in self.now) c.pairs) }
         ensures found { (answer : List ℕ → Ordering) → ComputesKey P.FnMut answer predicate →
@@ -83,6 +88,10 @@ impl<
     ) -> Option<ZeroMap2dCursor<'l, 'a, K0, K1, V>>
         requires { P.IsAlwaysCallable predicate }
         ensures seen { IfSome result (λ c. c ≡ row_seen self.now.rows c.place) }
+        ensures within { IfSome result (λ c. c.place < length self.now.rows) }
+        ensures key { IfSome result (λ c. ComesToEqual P.FnMut predicate c.key) }
+        ensures answer { (answer : List ℕ → Ordering) → ComputesKey P.FnMut answer predicate →
+            IfSome result (λ c. answer c.key ≡ Equal) }
         ensures equal { IfSome result (λ c. IsPicked P.FnMut predicate self.now.rows c.pairs) }
         ensures found { (answer : List ℕ → Ordering) → ComputesKey P.FnMut answer predicate →
             FoundBy answer self.now.rows (option_map (λ c. c.pairs) result) }

@@ -5,11 +5,11 @@ ghost use Rattle.std.specs.declared.cmp.Ordering.TheVariants.{Equal};
 ghost use Rattle.zv_ule.specs.Search.{AtMostDigits};
 ghost use Rattle.zv_ule.specs.Views.{element_of};
 ghost use Rattle.zv_map.specs.Maps.{look_up};
-ghost use Rattle.zv_map2d.specs.Borrowed.{parts_in, rows_in};
+ghost use Rattle.zv_map2d.specs.Borrowed.{AreTaken, IsViewedIn, parts_in, rows_in};
 ghost use Rattle.zv_map2d.specs.Bounds.{AtMostDigitsOf};
 ghost use Rattle.zv_map2d.specs.RowIters.{rows_left};
 ghost use Rattle.zv_map2d.specs.Rows.{find, row, row_of};
-ghost use Rattle.zv_map2d.specs.Views.{parts_of, row_seen};
+ghost use Rattle.zv_map2d.specs.Views.{parts_of, row_seen, rows_seen};
 
 use crate::borrowed::ZeroMap2dBorrowed;
 use crate::cursor::ZeroMap2dCursor;
@@ -33,6 +33,8 @@ impl<
     pub fn as_borrowed(&self) -> ZeroMap2dBorrowed<'_, K0, K1, V>
         ensures rows { rows_in result ≡ self.now.rows }
         ensures parts { parts_in result ≡ parts_of self.now }
+        ensures layouts { IsViewedIn self.now result }
+        ensures fits { AreTaken C0.has_layout C1.has_layout D.has_layout result }
     {
         self.columns.as_borrowed()
     }
@@ -119,7 +121,8 @@ impl<
 
     /// The rows, in the order of their first keys.
     pub fn iter0<'l>(&'l self) -> ZeroMap2dIter0<'l, 'a, K0, K1, V>
-        ensures { map (λ c. (c.key, c.pairs)) (rows_left result) ≡ self.now.rows }
+        ensures rows { map (λ c. (c.key, c.pairs)) (rows_left result) ≡ self.now.rows }
+        ensures seen { rows_left result ≡ rows_seen self.now.rows 0 (length self.now.rows) }
     {
         self.as_borrowed().iter0()
     }

@@ -8,7 +8,7 @@ ghost use Rattle.zv_ule.specs.Search.{AtMostDigits};
 ghost use Rattle.zv_map.specs.Maps.{look_up};
 ghost use Rattle.zv_map2d.specs.Borrowed.{rows_in};
 ghost use Rattle.zv_map2d.specs.Rows.{row_of};
-ghost use Rattle.zv_map2d.specs.Views.{row_seen};
+ghost use Rattle.zv_map2d.specs.Views.{row_seen, rows_seen};
 
 use crate::borrowed::ZeroMap2dBorrowed;
 use crate::cursor::ZeroMap2dCursor;
@@ -98,7 +98,9 @@ impl<'b, K0: ZvOrd, K1: ZvOrd, V: ZvKind> ZeroMap2dBorrowed<'b, K0, K1, V> {
 
     /// The rows, in the order of their first keys.
     pub fn iter0<'a>(&self) -> ZeroMap2dIter0<'b, 'a, K0, K1, V>
-        ensures { map (λ c. (c.key, c.pairs)) (rows_left result) ≡ rows_in self.now }
+        ensures rows { map (λ c. (c.key, c.pairs)) (rows_left result) ≡ rows_in self.now }
+        ensures seen { rows_left result ≡ rows_seen (rows_in self.now) 0
+            (length (rows_in self.now)) }
     {
         ZeroMap2dIter0 {
             map: *self,

@@ -40,7 +40,7 @@ can_write w (x ∷ xs) f =
     grind arith
 
 -- an element that comes in place of another
-size_set : (w : ℕ) (xs : List (List ℕ)) (i : ℕ) (e : List ℕ) → i < length xs → size w (set xs i e) + length (slice_index_or xs i []) ≡ size w xs + length e
+pub size_set : (w : ℕ) (xs : List (List ℕ)) (i : ℕ) (e : List ℕ) → i < length xs → size w (set xs i e) + length (slice_index_or xs i []) ≡ size w xs + length e
 size_set w xs i e h = rw (size_total w (set xs i e), size_total w xs, length-set xs i e) (omega (arith, sum_by-set (λ x. length x) xs i e [] h))
 
 module _ (w : ℕ) (some : 0 < w) (narrow : 256 ^ w ≤ 2 ^ 32) where

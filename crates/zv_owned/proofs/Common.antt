@@ -17,6 +17,6 @@ pub use Rattle.zv_var.specs.Format.{Part, codable, elements, enc, starts, starts
 pub use Rattle.zv_var.specs.Laws.{AreValid}
 pub use Rattle.zv_var.specs.Views.{list_of}
 pub use Rattle.zv_owned.specs.Gaps.{IsRegapped}
-pub use Rattle.zv_owned.specs.Size.{max_of, size, takes_insert, takes_splice}
-pub use Rattle.zv_owned.specs.Splices.{CanShift, IsEdit, count_after, most_growth, new_bytes, shifted}
+pub use Rattle.zv_owned.specs.Size.{max_of, size, takes_insert}
+pub use Rattle.zv_owned.specs.Splices.{CanShift, IsEdit, count_after, new_bytes, shifted}
 pub use Rattle.zv_owned.specs.declared.writes.Edit.{Edit}

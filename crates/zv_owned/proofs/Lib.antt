@@ -2,6 +2,7 @@ pub mod Codable
 pub mod Common
 pub mod Gaps
 pub mod Offsets
+pub mod Placed
 pub mod Pushes
 pub mod Shifts
 pub mod SizeRule

@@ -1,13 +1,11 @@
 -- A change of the bytes of a list leaves the encoding of the changed list.
 use Rattle.zv_owned.proofs.Common.{[], ◌*◌, ◌++◌, ◌+◌, ◌-◌, ◌<◌, ◌^◌, ◌∙◌, ◌∷◌, ◌≡◌, ◌≤◌, AllByRecursion, CanShift, Edit, IsEdit, List, None, Option, Part}
-use Rattle.zv_owned.proofs.Common.{Some, ap, append-nil, append_assoc, arith, codable, concat, concat-append, count_after, enc, flat_map, flat_map-append}
-use Rattle.zv_owned.proofs.Common.{from_codable, le, length, length-append, length-le, length-map, length-starts_from, map, max, max_of, most_growth, mul-add}
-use Rattle.zv_owned.proofs.Common.{new_bytes, option_map, option_to_list, refl, shifted, splice, starts, suc, sym, takes_splice, true, zero, ℕ}
-use Rattle.std.proofs.Common.{◌≢◌, Bor}
+use Rattle.zv_owned.proofs.Common.{Some, ap, append_assoc, arith, codable, concat, concat-append, count_after, enc, flat_map, flat_map-append}
+use Rattle.zv_owned.proofs.Common.{from_codable, le, length, length-append, length-le, length-map, length-starts_from, map, max, mul-add, size}
+use Rattle.zv_owned.proofs.Common.{option_map, option_to_list, refl, shifted, starts, sym, true, ℕ}
+use Rattle.std.proofs.Common.{◌≢◌}
 use Rattle.std.proofs.Math.Nat.{mul-le-mul_left}
-use Rattle.std.proofs.lemmas.List.{drop_all}
 use Rattle.std.specs.Option.{ForSome}
-use Rattle.zv_owned.proofs.SizeRule.{begun}
 use Rattle.zv_owned.proofs.Sizes.{size_of}
 use Rattle.zv_owned.specs.Splices.{CanEdit, Edits, begin_steps, most_steps}
 pub use Rattle.zv_owned.proofs.Sizes.{one_encoded}
@@ -50,9 +48,9 @@ pub record IsSplice (w : ℕ) (b : List ℕ) (front gone back : List (List ℕ))
 
 -- the most steps where a list isn't empty, and doesn't become so
 most_is : (w n long i j : ℕ) (o : Option (List ℕ)) → n ≢ 0 → (o ≡ None → n ≢ 1) →
-    most_steps w n long i j (option_map (λ x. length x) o) ≡ long - w * max i 1 + w * (n - i - j) + w + 2 * most_growth w o
+    most_steps w n long i j (option_map (λ x. length x) o) ≡ long - w * max i 1 + w * (n - i - j) + w + 2 * size w (option_to_list o)
 most_is w n long i j None some more = let m = more refl in grind arith
-most_is w n long i j (Some x) some more = grind arith
+most_is w n long i j (Some x) some more = grind (arith, one_encoded w x)
 
 module _ {w : ℕ} {b : List ℕ} {front gone back : List (List ℕ)} {o : Option (List ℕ)} {e : Edit} (s : IsSplice w b front gone back o e) where
   abbrev pub r : IsEdit front gone back o e
@@ -121,7 +119,7 @@ module _ {w : ℕ} {b : List ℕ} {front gone back : List (List ℕ)} {o : Optio
       let later : w * e.later ≤ w * (n - i - j) = mul-le-mul_left w (omega (arith, parts, c.rest)) in
       let tail : w * max i 1 ≤ w * e.kept = mul-le-mul_left w (omega (arith, c.place)) in
       let start : w * length (option_to_list e.start) ≤ w * length (option_to_list o) = mul-le-mul_left w c.brief in
-      rw (most_is w n (length b) i j o (omega (arith, parts, c.some)) more) (omega (arith, c.into, begun w o, size_of w (option_to_list o)))
+      rw (most_is w n (length b) i j o (omega (arith, parts, c.some)) more) (omega (arith, c.into, size_of w (option_to_list o)))
 
 -- a list that isn't empty is in its encoding
 pub encoded : (w : ℕ) (b : List ℕ) (xs : List (List ℕ)) → Part w b xs → 0 < length xs → b ≡ enc w xs
@@ -131,19 +129,3 @@ encoded w b (x ∷ xs) p h = p.1
 pub begin_within : (w n long i j : ℕ) (o : Option ℕ) → begin_steps w o ≤ most_steps w n long i j o
 begin_within w n long i j None = omega arith
 begin_within w n long i j (Some x) = omega arith
-
-pub nothing_kept : (xs : List (List ℕ)) (i j : ℕ) (es : List (List ℕ)) → i + j ≤ length xs → length xs ≡ j → splice xs i (i + j) es ≡ es
-nothing_kept xs i j es inside e =
-    let k : i ≡ 0 = omega arith in
-    rw (k, drop_all (0 + j) xs (omega arith)) (append-nil es)
-
--- what an argument brings, if there is one
-pub no_value : {Q : Type 0} (f : Q → List ℕ) (value : Option (Bor Q)) → new_bytes f value ≡ None → value ≡ None
-no_value f None e = refl
-no_value f (Some v) e = absurd cc
-
-pub taken_small : (w : ℕ) (xs : List (List ℕ)) (i j : ℕ) (o : Option (List ℕ)) → takes_splice w xs i j o ≡ true → length (concat (option_to_list o)) ≤ max_of w
-taken_small w xs i j None taken = omega arith
-taken_small w [] i zero (Some x) taken = grind (arith, length-append x [])
-taken_small w (y ∷ xs) i zero (Some x) taken = grind (arith, length-append x [])
-taken_small w xs i (suc j) (Some x) taken = grind (arith, length-append x [])

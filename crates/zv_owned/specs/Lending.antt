@@ -10,7 +10,7 @@ use Rattle.zv_ule.specs.declared.format.VarZeroVecFormat.{Ghosts as FormatGhosts
 use Rattle.zv_owned.specs.Owned.{Owned}
 use Rattle.zv_owned.specs.declared.vector.VarZeroVec.{VarZeroVec}
 use Rattle.zv_owned.specs.contracts.vector.VarZeroVec.{the_row as vector_row}
-use Rattle.zv_owned.specs.contracts.vector.Slot.{the_row as slot_row}
+use Rattle.zv_owned.specs.contracts.vector.slot.Slot.{the_row as slot_row}
 use Rattle.zv_owned.specs.contracts.owned.VarZeroVecOwned.{the_row as owned_row}
 
 module _ (T F Index Len : RattleType) (kind : KindGhosts T.Denot)

@@ -1,7 +1,6 @@
 -- The size rule: which changes a list in a format takes. w is the width of a field in bytes.
-use Rattle.std.specs.Prelude.{ℕ, zero, suc, Option, Some, None, slice_index_or}
-use Rattle.std.specs.Prelude.{◌+◌, ◌-◌, ◌^◌, Bool, true, ◌&&◌, ◌||◌, nat_lt, nat_le, List, []}
-use Rattle.std.specs.Prelude.{◌∷◌, ◌++◌, length}
+use Rattle.std.specs.Prelude.{ℕ, ◌+◌, ◌-◌, ◌^◌, Bool, true, ◌&&◌, ◌||◌, nat_lt, nat_le}
+use Rattle.std.specs.Prelude.{List, [], ◌∷◌, ◌++◌, length}
 use Rattle.zv_var.specs.Format.{enc}
 
 -- the most that a field holds
@@ -23,14 +22,6 @@ takes_insert w (x ∷ xs) n = nat_lt n (max_of w) && nat_le (size w (x ∷ xs) +
 abbrev pub takes_replace : ℕ → List (List ℕ) → ℕ → ℕ → Bool
 takes_replace w xs old n = nat_lt n (max_of w) &&
     (nat_le n old || nat_le (size w xs + n) (max_of w + old))
-
--- the elements from place i on, `gone` of them, which is one at most, may give way to o, or to
--- nothing
-abbrev pub takes_splice : ℕ → List (List ℕ) → ℕ → ℕ → Option (List ℕ) → Bool
-takes_splice w xs i gone None = true
-takes_splice w xs i zero (Some e) = takes_insert w xs (length e)
-takes_splice w xs i (suc k) (Some e) =
-    takes_replace w xs (length (slice_index_or xs i [])) (length e)
 
 -- by a rule for one element, the elements es may join the list one after another, each at its end
 abbrev pub takes_pushes : (List (List ℕ) → ℕ → Bool) → List (List ℕ) → List (List ℕ) → Bool

@@ -1,13 +1,12 @@
 -- What a change brings into a list, and what it changes in the list's bytes. w is the width of a
 -- field in bytes.
-use Rattle.std.specs.Prelude.{[], ◌≡◌, ℕ, ◌+◌, ◌-◌, ◌*◌, ◌^◌, ◌<◌, ◌≤◌, ◌==◌, max, List, ◌++◌}
-use Rattle.std.specs.Prelude.{length, map, slice_index_or, if◌then◌else◌, Option, Some, None}
+use Rattle.std.specs.Prelude.{◌≡◌, ℕ, ◌+◌, ◌-◌, ◌*◌, ◌^◌, ◌<◌, ◌≤◌, ◌==◌, max, List, ◌++◌}
+use Rattle.std.specs.Prelude.{length, map, if◌then◌else◌, Option, Some, None}
 use Rattle.std.specs.Borrow.{Bor}
 use Rattle.std.specs.List.{AllByRecursion, concat, flat_map}
 use Rattle.std.specs.Option.{ForSome, option_map, option_to_list}
 use Rattle.zv_ule.specs.Bytes.{le}
-use Rattle.zv_ule.specs.declared.error.UleError.{UleError}
-use Rattle.zv_var.specs.Format.{elements, enc, list_fault, starts}
+use Rattle.zv_var.specs.Format.{starts}
 use Rattle.zv_owned.specs.declared.writes.Edit.{Edit}
 
 -- what is written for an argument, if there is one
@@ -103,23 +102,3 @@ most_steps w n long i gone None = if n == 1 then 0
     else tail_of w n long i + w * (n - i - gone) + w
 most_steps w n long i gone (Some e) =
     tail_of w n long i + w * (n - i - gone) + w + 2 * (e + w)
-
--- the most bytes that a list grows by where an element comes, or none
-abbrev pub most_growth : ℕ → Option (List ℕ) → ℕ
-most_growth w None = 0
-most_growth w (Some e) = length e + w
-
--- A splice is made: the elements of xs from place i on, `gone` of them, gave way to o, or to
--- nothing, and the list is ys. The old bytes had a spare, and the new ones have one; t is how many
--- steps there were before, and u how many there are.
-pub record IsSpliced (w : ℕ) (K : List ℕ → Option UleError) (xs ys : List (List ℕ)) (i gone : ℕ)
-    (o : Option (List ℕ)) (old : List ℕ) (old_spare : ℕ) (bytes : List ℕ) (spare t u : ℕ) : Type 0
-  where
-    pub is : bytes ≡ enc w ys
-    pub list : elements w bytes ≡ ys
-    pub sound : list_fault w K bytes ≡ None
-    pub kept_spare : old_spare ≤ spare + (length bytes - length old)
-    pub growth : length bytes ≤ length old + most_growth w o
-    pub steps : u ≤ t + most_steps w (length xs) (length old) i gone (option_map (λ x. length x) o)
-    pub in_place : (e : List ℕ) → o ≡ Some e → gone ≡ 1 →
-        length e ≡ length (slice_index_or xs i []) → u ≤ t + length e

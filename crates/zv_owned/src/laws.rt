@@ -12,8 +12,9 @@ ghost use Rattle.zv_owned.specs.Laws.{AnyOrder, InsertKeeps, RemoveKeeps, Replac
 ghost use Rattle.zv_owned.specs.Laws.{ShorterIsTaken};
 ghost use Rattle.zv_owned.specs.Owned.{TooLargeUnless};
 
+use crate::change::Change;
 use crate::error::VecError;
-use crate::owned::{Change, VarZeroVecOwned};
+use crate::owned::VarZeroVecOwned;
 use crate::shelf::Shelf;
 use std::alloc::Global;
 use std::sync::ledger::Ledger;
@@ -38,7 +39,6 @@ pub fn sizes_by_hand()
     ensures not_taken_too_large { NotTakenIsTooLarge }
 {}
 
-/// The most steps of four changes.
 pub fn steps_by_hand()
     ensures first_takes_ten { FirstTakesTen }
     ensures front_takes_thirty_eight { FrontTakesThirtyEight }
@@ -46,9 +46,6 @@ pub fn steps_by_hand()
     ensures only_goes_in_none { OnlyGoesInNone }
 {}
 
-/// A list that can be written still can after each change that the size rule takes, and after any
-/// removal. A shorter element is always taken in place of a longer one. Whether elements are taken
-/// one after another does not depend on their order.
 pub fn size_rule()
     ensures insert { InsertKeeps }
     ensures replace { ReplaceKeeps }
@@ -57,16 +54,15 @@ pub fn size_rule()
     ensures any_order { AnyOrder }
 {}
 
-/// In the list of the texts "a" and "b", "c" takes the place of "b" in one step. Nothing but memory
-/// can be wanting.
 pub fn splice_by_hand<L: Ledger>(
     list: &mut VarZeroVecOwned<StrULE, Index16>,
     steps: &mut Steps<L>,
 ) -> Result<(), VecError>
     requires { list.old.list ≡ (97 ∷ []) ∷ (98 ∷ []) ∷ [] }
     ensures bytes { OnOk result (list.new.bytes ≡ 2 ∷ 0 ∷ 1 ∷ 0 ∷ 97 ∷ 99 ∷ []) }
-    ensures steps { OnOk result (steps.new ≤ steps.old + 1) }
     ensures taken { TooLargeUnless true result }
+    // what it takes
+    ensures steps { OnOk result (steps.new ≤ steps.old + 1) }
 {
     list.splice_counted(1, Change::Replace(&"c"), steps)
 }

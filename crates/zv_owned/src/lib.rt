@@ -5,6 +5,7 @@
 //! [`Shelf`](shelf::Shelf) is a buffer of bytes that counts what is written into it.
 #![tactic(auto)]
 
+mod change;
 pub mod encoded;
 pub mod error;
 pub mod laws;
@@ -19,7 +20,8 @@ mod splice;
 pub mod vector;
 mod writes;
 
+pub use change::Change;
 pub use encoded::Encoded;
 pub use error::VecError;
-pub use owned::{Change, VarZeroVecOwned};
+pub use owned::VarZeroVecOwned;
 pub use vector::{VarZeroVec, VarZeroVec16, VarZeroVec32};

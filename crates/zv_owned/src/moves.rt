@@ -36,11 +36,13 @@ pub(crate) fn fit_gaps<L: Ledger>(
         IsRegapped p first.into m second.into t shelf.new.bytes) }
     ensures len { OnOk result (length shelf.new.bytes + (first.out + second.out) ≡
         length shelf.old.bytes + (first.into + second.into)) }
+    // where it is refused
     ensures err { OnErr result (shelf.new ≡ shelf.old) }
-    ensures within { OnErr result (
+    ensures succeeds { OnErr result (
         first.out + second.out + shelf.old.spare < first.into + second.into) }
-    ensures spare { OnOk result (shelf.old.spare ≤
-        shelf.new.spare + (first.into + second.into - (first.out + second.out))) }
+    // what it takes
+    ensures keeps_room { OnOk result (length shelf.old.bytes + shelf.old.spare ≤
+        length shelf.new.bytes + shelf.new.spare) }
     ensures free { OnErr result (steps.new ≡ steps.old) }
     ensures steps { OnOk result (steps.new ≤ steps.old
         + (length shelf.old.bytes - first.at - first.out - second.out)
@@ -73,6 +75,7 @@ fn slide<L: Ledger>(shelf: &mut Shelf, from: usize, end: usize, to: usize, steps
     requires target { to + (end - from) ≤ length shelf.old.bytes }
     ensures bytes { shelf.new.bytes ≡ copy_within shelf.old.bytes from end to }
     ensures len { length shelf.new.bytes ≡ length shelf.old.bytes }
+    // what it takes
     ensures spare { shelf.new.spare ≡ shelf.old.spare }
     ensures steps { steps.new ≤ steps.old + (end - from) }
     ensures still { from ≡ to → steps.new ≡ steps.old }

@@ -109,8 +109,8 @@ impl Shelf {
         ensures bytes { self.new.bytes ≡ self.old.bytes }
         ensures ok { OnOk result (n ≤ self.new.spare) }
         ensures err { OnErr result (self.new ≡ self.old) }
-        ensures kept { self.old.spare ≤ self.new.spare }
-        ensures within { n ≤ self.old.spare → IsOk result }
+        ensures keeps_room { self.old.spare ≤ self.new.spare }
+        ensures succeeds { n ≤ self.old.spare → IsOk result }
     {
         if n > self.room {
             self.buffer.reserve(n)?;
@@ -125,11 +125,13 @@ impl Shelf {
     /// [`NoMemory`] at most where `n` is above the spare.
     pub fn grow<L: Ledger>(&mut self, n: usize, steps: &mut Steps<L>) -> Result<(), NoMemory>
         ensures ok { OnOk result (self.new.bytes ≡ self.old.bytes ++ replicate n 0) }
+        // where it is refused
+        ensures err { OnErr result (self.new ≡ self.old) }
+        ensures succeeds { n ≤ self.old.spare → IsOk result }
+        // what it takes
         ensures spare { OnOk result (self.new.spare ≡ self.old.spare - n) }
         ensures steps { OnOk result (steps.new ≡ steps.old + n) }
-        ensures err { OnErr result (self.new ≡ self.old) }
         ensures free { OnErr result (steps.new ≡ steps.old) }
-        ensures within { n ≤ self.old.spare → IsOk result }
     {
         let len = self.buffer.len();
         let Some(end) = len.checked_add(n) else {
@@ -173,6 +175,7 @@ impl Shelf {
         requires inside { from.end ≤ length self.old.bytes }
         requires target { to + (from.end - from.start) ≤ length self.old.bytes }
         ensures bytes { self.new.bytes ≡ copy_within self.old.bytes from.start from.end to }
+        // what it takes
         ensures spare { self.new.spare ≡ self.old.spare }
         ensures steps { steps.new ≡ steps.old + (from.end - from.start) }
     {
@@ -208,11 +211,13 @@ impl Shelf {
     /// [`NoMemory`] at most where they are more than the spare.
     pub fn take_in<L: Ledger>(&mut self, bytes: &[u8], steps: &mut Steps<L>) -> Result<(), NoMemory>
         ensures ok { OnOk result (self.new.bytes ≡ self.old.bytes ++ bytes.now) }
+        // where it is refused
+        ensures err { OnErr result (self.new ≡ self.old) }
+        ensures succeeds { length bytes.now ≤ self.old.spare → IsOk result }
+        // what it takes
         ensures spare { OnOk result (self.new.spare ≡ self.old.spare - length bytes.now) }
         ensures steps { OnOk result (steps.new ≡ steps.old + length bytes.now) }
-        ensures err { OnErr result (self.new ≡ self.old) }
         ensures free { OnErr result (steps.new ≡ steps.old) }
-        ensures within { length bytes.now ≤ self.old.spare → IsOk result }
     {
         self.buffer.extend_from_slice(bytes)?;
         self.room = self.room.saturating_sub(bytes.len());

@@ -1,10 +1,12 @@
-// The size rule: which changes a list takes.
-ghost use Rattle.std.specs.Prelude.{◌≡◌, ◌^◌, ◌<◌, [], length, slice_index_or};
+// The size rule: which changes a list takes. A list in one format may be asked by the rule of
+// another.
+ghost use Rattle.std.specs.Prelude.{◌≡◌, ◌+◌, ◌^◌, ◌<◌, [], length, slice_index_or, is_some};
+ghost use Rattle.std.specs.Prelude.{IfSome};
 ghost use Rattle.zv_var.specs.Views.{list_of};
-ghost use Rattle.zv_owned.specs.Changes.{HasPlace, IsBelow, takes_change};
+ghost use Rattle.zv_owned.specs.Changes.{HasPlace, IsBelow, growth, takes_change};
 ghost use Rattle.zv_owned.specs.Size.{max_of, size, takes_insert, takes_pushes, takes_replace};
 
-use crate::owned::Change;
+use crate::change::Change;
 use zv_ule::{VarZeroVecFormat, ZvArg, ZvKind};
 use zv_var::slice::VarZeroSlice;
 
@@ -17,14 +19,20 @@ fn most<F: VarZeroVecFormat>() -> usize
     F::MAX
 }
 
-/// How many bytes a list that has an element is written as: its own.
+/// How many bytes a list in one format, of `count` elements, is written as in another.
 #[inline]
-fn size_of<T: ZvKind, F: VarZeroVecFormat>(list: VarZeroSlice<'_, T, F>) -> usize
-    requires { 0 < length (list_of list) }
-    ensures is { result ≡ size F.W (list_of list.entry) }
-    ensures small { result < 2 ^ 63 }
+fn size_of<T: ZvKind, F: VarZeroVecFormat, G: VarZeroVecFormat>(
+    list: VarZeroSlice<'_, T, F>,
+    count: usize,
+) -> usize
+    requires count { count ≡ length (list_of list) }
+    requires some { 0 < count }
+    ensures is { result ≡ size G.W (list_of list.entry) }
+    ensures small { result < 2 ^ 63 + 2 ^ 34 }
 {
-    list.as_bytes().len()
+    let own = F::W * count;
+    let other = G::W * count;
+    list.as_bytes().len() - own + other
 }
 
 /// How many bytes the element at a place has.
@@ -34,79 +42,87 @@ fn len_at<T: ZvKind, F: VarZeroVecFormat>(list: VarZeroSlice<'_, T, F>, index: u
     requires { index < length (list_of list) }
     ensures { result ≡ length (slice_index_or (list_of list.entry) index []) }
 {
+    // `len` is called for its clause that the elements are fewer than 2^64, so the next place fits.
     let _count = list.len();
     list.offset(index + 1) - list.offset(index)
 }
 
-/// Whether the list takes an element of `len` bytes beside its own.
+/// Whether the list takes an element of `len` bytes beside its own, by the rule of the format `G`.
 #[inline]
-pub(crate) fn takes_insert<T: ZvKind, F: VarZeroVecFormat>(
+pub(crate) fn takes_insert<T: ZvKind, F: VarZeroVecFormat, G: VarZeroVecFormat>(
     list: VarZeroSlice<'_, T, F>,
     len: usize,
 ) -> bool
-    ensures { result ≡ takes_insert F.W (list_of list.entry) len }
+    ensures { result ≡ takes_insert G.W (list_of list.entry) len }
 {
-    let most = most::<F>();
-    len < most && (list.is_empty() || size_of(list) + len + F::W <= most)
+    let most = most::<G>();
+    let count = list.len();
+    len < most && (count == 0 || size_of::<T, F, G>(list, count) + len + G::W <= most)
 }
 
-/// Whether the list takes an element of `len` bytes in place of one of its own.
+/// Whether the list takes an element of `len` bytes in place of one of its own, by the rule of the
+/// format `G`.
 #[inline]
-pub(crate) fn takes_replace<T: ZvKind, F: VarZeroVecFormat>(
+pub(crate) fn takes_replace<T: ZvKind, F: VarZeroVecFormat, G: VarZeroVecFormat>(
     list: VarZeroSlice<'_, T, F>,
     index: usize,
     len: usize,
 ) -> bool
     requires { index < length (list_of list) }
-    ensures { result ≡ takes_replace F.W (list_of list.entry)
+    ensures { result ≡ takes_replace G.W (list_of list.entry)
         (length (slice_index_or (list_of list.entry) index [])) len }
 {
-    let most = most::<F>();
+    let most = most::<G>();
     let old = len_at(list, index);
-    len < most && (len <= old || size_of(list) + len <= most + old)
+    len < most && (len <= old || size_of::<T, F, G>(list, list.len()) + len <= most + old)
 }
 
-/// Whether an empty list takes the list's elements one after another.
+/// Whether an empty list takes the list's elements one after another, by the rule of the format
+/// `G`.
 #[inline]
-pub(crate) fn takes_elements<T: ZvKind, F: VarZeroVecFormat>(list: VarZeroSlice<'_, T, F>) -> bool
-    ensures { result ≡ takes_pushes (takes_insert F.W) [] (list_of list.entry) }
+pub(crate) fn takes_elements<T: ZvKind, F: VarZeroVecFormat, G: VarZeroVecFormat>(
+    list: VarZeroSlice<'_, T, F>,
+) -> bool
+    ensures { result ≡ takes_pushes (takes_insert G.W) [] (list_of list.entry) }
 {
-    let most = most::<F>();
+    let most = most::<G>();
     match list.len() {
         0 => true,
         1 => len_at(list, 0) < most,
-        _ => size_of(list) <= most,
+        count => size_of::<T, F, G>(list, count) <= most,
     }
 }
 
-/// Whether the list takes a change at a place.
-pub(crate) fn takes_change<T: ZvKind, F: VarZeroVecFormat, Q: ZvArg<T>>(
+/// How many bytes longer a change at a place makes the list at most, or `None` where the list does
+/// not take it.
+pub(crate) fn growth_of<T: ZvKind, F: VarZeroVecFormat, Q: ZvArg<T>>(
     list: VarZeroSlice<'_, T, F>,
     index: usize,
     change: &Change<'_, Q>,
-) -> bool
+) -> Option<usize>
     requires place { HasPlace Q.bytes change.now (length (list_of list)) index }
     requires below { IsBelow Q.bytes change.now }
-    ensures { result ≡ takes_change Q.bytes F.W change.now (list_of list.entry) index }
+    ensures fits { is_some result ≡
+        takes_change Q.bytes F.W change.now (list_of list.entry) index }
+    ensures growth { IfSome result (λ n. n ≡ growth Q.bytes F.W change.now) }
 {
     match change {
-        Change::Insert(value) => takes_insert(list, value.arg_len()),
-        Change::Replace(value) => takes_replace(list, index, value.arg_len()),
-        Change::Remove => true,
-    }
-}
-
-/// How many bytes the list may grow by, by a change.
-pub(crate) fn growth_of<T: ZvKind, F: VarZeroVecFormat, Q: ZvArg<T>>(
-    list: VarZeroSlice<'_, T, F>,
-    change: &Change<'_, Q>,
-) -> usize
-    requires { IsBelow Q.bytes change.now }
-{
-    let _ = list;
-    match change {
-        Change::Insert(value) => value.arg_len().saturating_add(F::W),
-        Change::Replace(value) => value.arg_len(),
-        Change::Remove => 0,
+        Change::Insert(value) => {
+            let len = value.arg_len();
+            if takes_insert::<T, F, F>(list, len) {
+                Some(len + F::W)
+            } else {
+                None
+            }
+        }
+        Change::Replace(value) => {
+            let len = value.arg_len();
+            if takes_replace::<T, F, F>(list, index, len) {
+                Some(len)
+            } else {
+                None
+            }
+        }
+        Change::Remove => Some(0),
     }
 }

@@ -1,53 +1,48 @@
 // One change of a list, in the buffer that it lies in.
-ghost use Rattle.std.specs.Prelude.{◌≡◌, ℕ, ◌+◌, ◌-◌, ◌*◌, ◌^◌, ◌<◌, ◌≤◌, ◌++◌, List, []};
-ghost use Rattle.std.specs.Prelude.{Option, None};
-ghost use Rattle.std.specs.Prelude.{◌∷◌, length, true, IfSome, IfNone, IsOk, IsTrue, OnErr, OnOk};
-ghost use Rattle.std.specs.List.{splice};
+ghost use Rattle.std.specs.Prelude.{◌≡◌, ℕ, ◌+◌, ◌-◌, ◌*◌, ◌^◌, ◌<◌, ◌≤◌, ◌++◌, List, Option, None};
+ghost use Rattle.std.specs.Prelude.{◌∷◌, [], length, true, IfSome, IfNone, IsOk, IsTrue, OnErr};
+ghost use Rattle.std.specs.Prelude.{OnOk};
+ghost use Rattle.std.specs.List.{concat};
 ghost use Rattle.std.specs.Option.{ForSome, option_map};
 ghost use Rattle.zv_var.specs.Format.{elements, enc, list_fault};
 ghost use Rattle.zv_var.specs.Laws.{AreValid};
 ghost use Rattle.zv_var.specs.Views.{list_of};
-ghost use Rattle.zv_owned.specs.Size.{max_of, takes_splice};
-ghost use Rattle.zv_owned.specs.Splices.{IsEdit, IsSpliced, begin_steps, most_growth, new_bytes};
-ghost use Rattle.zv_owned.specs.Splices.{new_elements};
+ghost use Rattle.zv_owned.specs.Changes.{HasPlace, IsChanged, changed, growth, takes_change};
+ghost use Rattle.zv_owned.specs.Size.{max_of};
+ghost use Rattle.zv_owned.specs.Splices.{IsEdit, begin_steps, new_bytes, new_elements};
 
+use crate::change::Change;
 use crate::shelf::Shelf;
 use crate::writes::{Edit, edit_bytes, write_field, write_value};
 use std::sync::ledger::Ledger;
 use zv_ule::{NoMemory, Steps, VarZeroVecFormat, ZvArg, ZvKind};
 use zv_var::slice::VarZeroSlice;
 
-/// The elements from `start` on, `gone` of them, which is one at most, give way to what is written
-/// for a value, or to nothing. The bytes are then the encoding of the changed list, whatever they
-/// were before.
+/// Makes a change at a place that the size rule takes. The bytes are then the encoding of the
+/// changed list, whatever they were before.
+#[tactic(auto, using(crate::proofs::Placed::splicing))]
 pub(crate) fn splice<T: ZvKind, F: VarZeroVecFormat, Q: ZvArg<T>, L: Ledger>(
     shelf: &mut Shelf,
-    start: usize,
-    gone: usize,
-    value: Option<&Q>,
+    index: usize,
+    change: Change<'_, Q>,
     steps: &mut Steps<L>,
 ) -> Result<(), NoMemory>
     requires usable { IsTrue T.usable }
     requires spells { list_fault F.W T.fault shelf.old.bytes ≡ None }
-    requires one { gone ≤ 1 }
-    requires inside { start + gone ≤ length (elements F.W shelf.old.bytes) }
-    requires change { gone ≡ 0 → value ≡ None → ⊥ }
-    requires taken { takes_splice F.W (elements F.W shelf.old.bytes) start gone
-        (new_bytes Q.bytes value) ≡ true }
-    ensures done { OnOk result (IsSpliced F.W T.fault (elements F.W shelf.old.bytes)
-        (splice (elements F.W shelf.old.bytes) start (start + gone)
-        (new_elements Q.bytes value.entry))
-        start gone (new_bytes Q.bytes value.entry) shelf.old.bytes shelf.old.spare
+    requires place { HasPlace Q.bytes change (length (elements F.W shelf.old.bytes)) index }
+    requires fits { takes_change Q.bytes F.W change (elements F.W shelf.old.bytes) index ≡ true }
+    ensures done { OnOk result (IsChanged Q.bytes F.W T.fault change.entry
+        (elements F.W shelf.old.bytes) index shelf.old.bytes shelf.old.spare
         shelf.new.bytes shelf.new.spare steps.old steps.new) }
+    // where it is refused
     ensures err { OnErr result (shelf.new ≡ shelf.old) }
-    ensures within { OnErr result (length shelf.old.bytes + shelf.old.spare < length (enc F.W
-        (splice (elements F.W shelf.old.bytes) start (start + gone)
-        (new_elements Q.bytes value.entry)))) }
-    ensures room { most_growth F.W (new_bytes Q.bytes value.entry) ≤ shelf.old.spare →
-        IsOk result }
+    ensures succeeds { OnErr result (length shelf.old.bytes + shelf.old.spare < length (enc F.W
+        (changed Q.bytes change.entry (elements F.W shelf.old.bytes) index))) }
+    ensures reserved { growth Q.bytes F.W change.entry ≤ shelf.old.spare → IsOk result }
 {
+    let value = change.value();
     let list = VarZeroSlice::<T, F>::of_valid(shelf.bytes());
-    match edit_for(list, start, gone, len_for::<T, Q>(value)) {
+    match edit_for(list, index, change.gone(), len_for::<T, Q>(value)) {
         Some(edit) => edit_bytes::<T, F, Q, L>(shelf, edit, value, steps)?,
         None => begin::<T, F, Q, L>(shelf, value, steps)?,
     }
@@ -58,8 +53,9 @@ pub(crate) fn splice<T: ZvKind, F: VarZeroVecFormat, Q: ZvArg<T>, L: Ledger>(
 #[inline]
 fn len_for<T: ZvKind, Q: ZvArg<T>>(value: Option<&Q>) -> Option<usize>
     requires usable { IsTrue T.usable }
-    requires below { ForSome value (λ v. length (Q.bytes v.now) < 2 ^ 64) }
+    requires short { ForSome value (λ v. length (Q.bytes v.now) < 2 ^ 32) }
     ensures len { result ≡ option_map (λ e. length e) (new_bytes Q.bytes value.entry) }
+    ensures short { length (concat (new_elements Q.bytes value.entry)) < 2 ^ 32 }
     ensures valid { AreValid T.fault (new_elements Q.bytes value.entry) }
 {
     match value {
@@ -77,11 +73,13 @@ fn begin<T: ZvKind, F: VarZeroVecFormat, Q: ZvArg<T>, L: Ledger>(
     requires usable { IsTrue T.usable }
     requires short { ForSome value (λ v. length (Q.bytes v.now) < max_of F.W) }
     ensures bytes { OnOk result (shelf.new.bytes ≡ enc F.W (new_elements Q.bytes value.entry)) }
+    // where it is refused
     ensures err { OnErr result (shelf.new ≡ shelf.old) }
-    ensures within { OnErr result (length shelf.old.bytes + shelf.old.spare <
+    ensures succeeds { OnErr result (length shelf.old.bytes + shelf.old.spare <
         length (enc F.W (new_elements Q.bytes value.entry))) }
-    ensures spare { OnOk result (shelf.old.spare ≤
-        shelf.new.spare + (length shelf.new.bytes - length shelf.old.bytes)) }
+    // what it takes
+    ensures keeps_room { OnOk result (length shelf.old.bytes + shelf.old.spare ≤
+        length shelf.new.bytes + shelf.new.spare) }
     ensures steps { OnOk result (steps.new ≤ steps.old + begin_steps F.W
         (option_map (λ e. length e) (new_bytes Q.bytes value.entry))) }
 {
@@ -104,11 +102,13 @@ fn begin_with<T: ZvKind, F: VarZeroVecFormat, Q: ZvArg<T>, L: Ledger>(
     requires usable { IsTrue T.usable }
     requires short { length (Q.bytes value.now) < max_of F.W }
     ensures bytes { OnOk result (shelf.new.bytes ≡ enc F.W (Q.bytes value.now ∷ [])) }
+    // where it is refused
     ensures err { OnErr result (shelf.new ≡ shelf.old) }
-    ensures within { OnErr result (length shelf.old.bytes + shelf.old.spare <
+    ensures succeeds { OnErr result (length shelf.old.bytes + shelf.old.spare <
         length (enc F.W (Q.bytes value.now ∷ []))) }
-    ensures spare { OnOk result (shelf.old.spare ≤
-        shelf.new.spare + (length shelf.new.bytes - length shelf.old.bytes)) }
+    // what it takes
+    ensures keeps_room { OnOk result (length shelf.old.bytes + shelf.old.spare ≤
+        length shelf.new.bytes + shelf.new.spare) }
     ensures steps { OnOk result (steps.new ≤
         steps.old + F.W + 2 * (F.W + length (Q.bytes value.now))) }
 {
@@ -122,9 +122,12 @@ fn begin_with<T: ZvKind, F: VarZeroVecFormat, Q: ZvArg<T>, L: Ledger>(
 /// Makes the bytes `n`: it adds some, or cuts.
 fn fit_len<L: Ledger>(shelf: &mut Shelf, n: usize, steps: &mut Steps<L>) -> Result<(), NoMemory>
     ensures len { OnOk result (length shelf.new.bytes ≡ n) }
+    // where it is refused
     ensures err { OnErr result (shelf.new ≡ shelf.old) }
-    ensures within { OnErr result (length shelf.old.bytes + shelf.old.spare < n) }
-    ensures spare { OnOk result (shelf.old.spare ≤ shelf.new.spare + (n - length shelf.old.bytes)) }
+    ensures succeeds { OnErr result (length shelf.old.bytes + shelf.old.spare < n) }
+    // what it takes
+    ensures keeps_room { OnOk result (length shelf.old.bytes + shelf.old.spare ≤
+        n + shelf.new.spare) }
     ensures steps { OnOk result (steps.new ≤ steps.old + n) }
     ensures free { OnErr result (steps.new ≡ steps.old) }
 {
@@ -151,8 +154,9 @@ fn edit_for<T: ZvKind, F: VarZeroVecFormat>(
     ensures edit { IfSome result (λ e. (front mid back : List (List ℕ)) (o : Option (List ℕ)) →
         list_of list.entry ≡ front ++ (mid ++ back) → length front ≡ start →
         length mid ≡ gone → option_map (λ x. length x) o ≡ new → IsEdit front mid back o e) }
-    ensures none { IfNone result (length (list_of list.entry) ≡ gone) }
     ensures no_new { IfNone result (0 < gone → new ≡ None) }
+    // where it is refused
+    ensures none { IfNone result (length (list_of list.entry) ≡ gone) }
 {
     let parts = list.components();
     let count = parts.len();

@@ -25,9 +25,11 @@ pub(crate) fn write_value<T: ZvKind, Q: ZvArg<T>, L: Ledger>(
     ensures bytes { shelf.new.bytes ≡ splice shelf.old.bytes at
         (at + length (Q.bytes value.now)) (Q.bytes value.now) }
     ensures len { length shelf.new.bytes ≡ length shelf.old.bytes }
+    // what it takes
     ensures spare { shelf.new.spare ≡ shelf.old.spare }
     ensures steps { steps.new ≡ steps.old + length (Q.bytes value.now) }
 {
+    // `len` is called for its clause that the bytes are fewer than 2^64, so the place's end fits.
     let _len = shelf.len();
     let len = value.arg_len();
     value.arg_write(shelf.lend(at, len, steps));
@@ -42,9 +44,10 @@ pub(crate) fn write_field<F: VarZeroVecFormat, L: Ledger>(
     steps: &mut Steps<L>,
 )
     requires inside { at + F.W ≤ length shelf.old.bytes }
-    requires fits { n < 256 ^ F.W }
+    requires in_field { n < 256 ^ F.W }
     ensures bytes { shelf.new.bytes ≡ splice shelf.old.bytes at (at + F.W) (le F.W n) }
     ensures len { length shelf.new.bytes ≡ length shelf.old.bytes }
+    // what it takes
     ensures spare { shelf.new.spare ≡ shelf.old.spare }
     ensures steps { steps.new ≡ steps.old + F.W }
 {
@@ -99,10 +102,11 @@ fn put_start<F: VarZeroVecFormat, L: Ledger>(
     steps: &mut Steps<L>,
 )
     requires inside { ForSome start (λ _. at + F.W ≤ length shelf.old.bytes) }
-    requires fits { ForSome start (λ n. n < 256 ^ F.W) }
+    requires in_field { ForSome start (λ n. n < 256 ^ F.W) }
     ensures bytes { Puts shelf.old.bytes at (F.W * length (option_to_list start))
         (flat_map (le F.W) (option_to_list start)) shelf.new.bytes }
     ensures len { length shelf.new.bytes ≡ length shelf.old.bytes }
+    // what it takes
     ensures spare { shelf.new.spare ≡ shelf.old.spare }
     ensures steps { steps.new ≡ steps.old + F.W * length (option_to_list start) }
 {
@@ -124,6 +128,7 @@ fn put_value<T: ZvKind, Q: ZvArg<T>, L: Ledger>(
     ensures bytes { Puts shelf.old.bytes at (length (concat (new_elements Q.bytes value.entry)))
         (concat (new_elements Q.bytes value.entry)) shelf.new.bytes }
     ensures len { length shelf.new.bytes ≡ length shelf.old.bytes }
+    // what it takes
     ensures spare { shelf.new.spare ≡ shelf.old.spare }
     ensures steps { steps.new ≡ steps.old + length (concat (new_elements Q.bytes value.entry)) }
 {
@@ -148,10 +153,12 @@ fn put_shifted<F: VarZeroVecFormat, L: Ledger>(
         (p q : List ℕ) → shelf.old.bytes ≡ p ++ (flat_map (le F.W) ss ++ q) → length p ≡ at →
         shelf.new.bytes ≡ p ++ (flat_map (le F.W) (map (shifted into out) ss) ++ q) }
     ensures len { length shelf.new.bytes ≡ length shelf.old.bytes }
+    // what it takes
     ensures spare { shelf.new.spare ≡ shelf.old.spare }
     ensures steps { steps.new ≤ steps.old + F.W * count }
     ensures still { into ≡ out → steps.new ≡ steps.old }
 {
+    // `len` is called for its clause that the bytes are fewer than 2^64, so the fields' end fits.
     let _len = shelf.len();
     if into != out {
         shift_fields::<F>(shelf.lend(at, F::W * count, steps), count, into, out);
@@ -167,10 +174,11 @@ fn put_count<F: VarZeroVecFormat, L: Ledger>(
     steps: &mut Steps<L>,
 )
     requires inside { F.W ≤ length shelf.old.bytes }
-    requires fits { count < 256 ^ F.W }
+    requires in_field { count < 256 ^ F.W }
     ensures bytes { (c q : List ℕ) → shelf.old.bytes ≡ c ++ q → length c ≡ F.W →
         (is_other ≡ false → c ≡ le F.W count) → shelf.new.bytes ≡ le F.W count ++ q }
     ensures len { length shelf.new.bytes ≡ length shelf.old.bytes }
+    // what it takes
     ensures spare { shelf.new.spare ≡ shelf.old.spare }
     ensures steps { steps.new ≤ steps.old + F.W }
     ensures still { is_other ≡ false → steps.new ≡ steps.old }
@@ -202,11 +210,13 @@ pub(crate) fn edit_bytes<T: ZvKind, F: VarZeroVecFormat, Q: ZvArg<T>, L: Ledger>
     requires can { CanEdit F.W (length shelf.old.bytes) (concat (new_elements Q.bytes value)) edit }
     ensures ok { OnOk result (Edits F.W edit (concat (new_elements Q.bytes value.entry))
         shelf.old.bytes shelf.new.bytes) }
+    // where it is refused
     ensures err { OnErr result (shelf.new ≡ shelf.old) }
-    ensures within { OnErr result (F.W * edit.gone + edit.out + shelf.old.spare <
+    ensures succeeds { OnErr result (F.W * edit.gone + edit.out + shelf.old.spare <
         F.W * length (option_to_list edit.start) + edit.into) }
-    ensures spare { OnOk result (shelf.old.spare ≤ shelf.new.spare +
-        (F.W * length (option_to_list edit.start) + edit.into - (F.W * edit.gone + edit.out))) }
+    // what it takes
+    ensures keeps_room { OnOk result (length shelf.old.bytes + shelf.old.spare ≤
+        length shelf.new.bytes + shelf.new.spare) }
     ensures steps { OnOk result (steps.new ≤ steps.old + (length shelf.old.bytes
         - F.W * edit.kept - F.W * edit.gone - edit.out)
         + (F.W * length (option_to_list edit.start) + edit.into - (F.W * edit.gone + edit.out))

@@ -16,6 +16,7 @@ pub trait CastInto<T: ZvKind, P: ZvKind, E: ZvContainer<P>>: ZvContainer<T> {
     fn zvl_cast(self) -> E
         ensures list { E.list result ≡ Self.list self }
         ensures bytes { E.bytes result ≡ Self.bytes self }
+        ensures layout { E.layout result ≡ Self.layout self }
         ensures spare { E.spare result ≡ Self.spare self }
         ensures owned { E.owned result ≡ Self.owned self }
         ensures ready { E.ready result ≡ Self.ready self }
@@ -38,6 +39,7 @@ pub trait ConvertInto<T: ZvKind, P: ZvKind, E: ZvContainer<P>>: ZvContainer<T> {
         ensures error { result_err result ≡ E.parse_fault (Self.bytes self) }
         ensures list { IfOk result (λ c. E.list c ≡ Self.list self) }
         ensures bytes { IfOk result (λ c. E.bytes c ≡ Self.bytes self) }
+        ensures layout { IfOk result (λ c. E.layout c ≡ Self.layout self) }
         ensures spare { IfOk result (λ c. E.spare c ≡ Self.spare self) }
         ensures owned { IfOk result (λ c. E.owned c ≡ Self.owned self) }
         ensures ready { IfOk result (λ c. E.ready c ≡ Self.ready self) }

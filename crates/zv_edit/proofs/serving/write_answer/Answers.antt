@@ -1,4 +1,5 @@
 use Rattle.zv_edit.proofs.Common.{◌≡◌, ◌++◌, ◌∙◌, List, ℕ, length, take_all, sym, ap, rules, arith, frame, canon, bytes_of, last, reply_lines, image_line}
+use Rattle.zv_map2d.proofs.Unframed.{texts_written}
 use Rattle.zv_edit.proofs.Served.{at_err}
 use Rattle.zv_command.proofs.Sending.{sends_as, sends_then}
 use Rattle.zv_edit.proofs.serving.write_answer.Goals as goal
@@ -8,7 +9,8 @@ returns-clause-text g c =
     let m = c.args.map.now.rows in
     let cs = c.args.commands.now in
     let ran : c.run_commands.new.map.rows ≡ last m cs = search rules in
-    let image : canon (last m cs) ≡ frame (bytes_of c.canon_parts.result) = ap canon (sym ran) ∙ ap frame (sym c.canon_parts.ensures) in
+    let written = c.canon_parts.ensures.written ∙ texts_written _ c.canon_parts.ensures.layouts in
+    let image : canon (last m cs) ≡ frame (bytes_of c.canon_parts.result) = ap canon (sym ran) ∙ ap frame (sym written) in
     sends_as (ap (λ (i : List ℕ). reply_lines m cs ++ image_line i) image)
     (sends_then c.run_commands.ensures.text (search rules) c.write_image.ensures.text)
 

@@ -13,3 +13,9 @@ returns-clause-pairs g c = rw (without_key_at g.met.K.ZvOrd.total _ _ _ c.in-Ok.
 
 pub returns-clause-before : goal.returns-clause-before
 returns-clause-before g c = rw (value_at g.met.K.ZvOrd.total _ _ _ c.in-Ok.ensures) (ap Some c.in_ok-old.ensures.before)
+
+pub returns-clause-absent : goal.returns-clause-absent
+returns-clause-absent g c none = let some = value_at g.met.K.ZvOrd.total _ _ _ c.in-Ok.ensures in cc
+
+pub returns-in_err-old-clause-absent : goal.returns-in_err-old-clause-absent
+returns-in_err-old-clause-absent g c none = let some = value_at g.met.K.ZvOrd.total _ _ _ c.in-Ok.ensures in cc

@@ -17,6 +17,7 @@ returns g c = record {
   rows = view_of (same_lists refl refl refl c.in_ok-old.ensures.ok
       (value_set (seen c.self.view_is c.self.invariant) _ _ _ c.requires.row c.pair_start-at.ensures _ c.requires.pair));
   before = search rules;
+  stays = rw (← c.self.view_is) (search rules);
   err = tt;
   unchanged = tt;
   refused = search rules;

@@ -1,0 +1,72 @@
+// A table that is stored as an image, by the calls of its own crate.
+use std::alloc::Global;
+use std::process::Abort;
+use std::test::Fail;
+use zv_callers::images::{Entry, Keys, StoredTable, change_image, stored_parts};
+use zv_map2d::{EditError, Map2dError};
+
+// The image of "a" in "b", which has 1.
+const ONE_PAIR: &[u8] = b"\
+    \x03\0\0\0\0\0\0\0\x01\0a\
+    \x04\0\0\0\0\0\0\0\x01\0\0\0\
+    \x03\0\0\0\0\0\0\0\x01\0b\
+    \x03\0\0\0\0\0\0\0\x01\0\x01";
+
+// The keys of a language and a script.
+fn keys<'t>(language: &'t str, script: &'t str) -> Keys<'t> {
+    Keys { language, script }
+}
+
+// The table of one pair has another value for "a" in "c" and a first one for "d" in "e", and loses
+// "a" in "b", while nothing is in "x".
+fn changed(
+    alloc: Global,
+    image: &'static [u8],
+    value: &[u8],
+) -> Result<Result<StoredTable<'static>, Map2dError>, EditError> {
+    let first = Entry {
+        keys: keys("a", "c"),
+        value: &[2, 2],
+    };
+    let second = Entry {
+        keys: keys("d", "e"),
+        value,
+    };
+    change_image(
+        alloc,
+        image,
+        (first, second),
+        (keys("a", "b"), keys("x", "y")),
+    )
+}
+
+// The table is written as "a" in "c" with 2 and 2, and "d" in "e" with 3.
+fn is_stored(rt: &impl Abort, table: &StoredTable<'_>) {
+    let parts = stored_parts(table);
+    assert!(rt; parts.keys0 == b"\x02\0\x01\0ad".as_slice());
+    assert!(rt; parts.joiner == b"\x01\0\0\0\x02\0\0\0".as_slice());
+    assert!(rt; parts.keys1 == b"\x02\0\x01\0ce".as_slice());
+    assert!(rt; parts.values == b"\x02\0\x02\0\x02\x02\x03".as_slice());
+}
+
+#[test]
+fn an_image_is_changed(rt: HostRuntime) -> Result<(), Fail> {
+    match changed(rt.alloc(), ONE_PAIR, &[3])? {
+        Ok(table) => is_stored(&rt, &table),
+        Err(_) => panic!(rt; "there is room"),
+    }
+    Ok(())
+}
+
+#[test]
+fn an_image_is_not_changed(rt: HostRuntime) -> Result<(), Fail> {
+    let alloc = rt.alloc();
+    assert!(rt; changed(alloc, b"\0", &[3]).err() == Some(EditError::Frame));
+    let mut long = Vec::new(alloc);
+    long.resize(65_535, 0)?;
+    match changed(alloc, ONE_PAIR, &long)? {
+        Ok(_) => panic!(rt; "the value is too large"),
+        Err(error) => assert!(rt; error == Map2dError::TooLarge),
+    }
+    Ok(())
+}

@@ -1,0 +1,253 @@
+// How often look-ups in a map of 28 locales compare, counted by the keys themselves: the plain ones
+// and the counted ones.
+ghost use Rattle.std.specs.Prelude.{◌≡◌, ℕ, ◌<◌};
+
+use std::cell::Cell;
+use std::marker::Brand;
+use std::process::Abort;
+use std::sync::ledger::{Blank, Ledger};
+use std::test::Fail;
+use zv_counting::CountingKey;
+use zv_map::{MutableZeroVecLike, ZeroMapKV, ZeroVecSearch, ZvContainer};
+use zv_map2d::Map2dOver;
+use zv_ule::{SliceULE, Steps, StrULE};
+
+const KEYS0: &[u8] = b"\
+    \x15\x00\x03\x00\x05\x00\x07\x00\x09\x00\x0b\x00\x0e\x00\x10\x00\x12\x00\x14\x00\x17\
+    \x00\x1a\x00\x1c\x00\x1e\x00!\x00#\x00%\x00'\x00*\x00,\x00/\x00arcazcuenffgrckkkukyl\
+    ifmanmnpapalsdtgugunruzyuezh";
+
+const JOINER: &[u8] = b"\
+    \x02\x00\x00\x00\x03\x00\x00\x00\x04\x00\x00\x00\x05\x00\x00\x00\x06\x00\x00\x00\x07\
+    \x00\x00\x00\x08\x00\x00\x00\x0a\x00\x00\x00\x0c\x00\x00\x00\x0d\x00\x00\x00\x0e\x00\
+    \x00\x00\x0f\x00\x00\x00\x10\x00\x00\x00\x11\x00\x00\x00\x14\x00\x00\x00\x15\x00\x00\
+    \x00\x16\x00\x00\x00\x17\x00\x00\x00\x18\x00\x00\x00\x19\x00\x00\x00\x1c\x00\x00\x00";
+
+const KEYS1: &[u8] = b"\
+    \x1c\x00\x04\x00\x08\x00\x0c\x00\x10\x00\x14\x00\x18\x00\x1c\x00\x20\x00$\x00(\x00,\
+    \x000\x004\x008\x00<\x00@\x00D\x00H\x00L\x00P\x00T\x00X\x00\x5c\x00`\x00d\x00h\x00l\
+    \x00NbatPalmArabGlagShawAdlmLinbArabArabYeziArabLatnLimbNkooMongArabPhlpDevaKhojSind\
+    ArabCyrlDevaArabHansBopoHanbHant";
+
+const VALUES: &[u8] = b"\
+    \x1c\x00\x02\x00\x04\x00\x06\x00\x08\x00\x0a\x00\x0c\x00\x0e\x00\x10\x00\x12\x00\x14\
+    \x00\x16\x00\x18\x00\x1a\x00\x1c\x00\x1e\x00\x20\x00\x22\x00$\x00&\x00(\x00*\x00,\
+    \x00.\x000\x002\x004\x006\x00JOSYIRBGGBGNGRCNIQGECNTRINGNCNPKCNINININPKKZNPAFCNTWTWT\
+    W";
+
+// A language, a script of it, and how many it has.
+const PAIRS: [(&str, &str, usize); 28] = [
+    ("arc", "Nbat", 2),
+    ("arc", "Palm", 2),
+    ("az", "Arab", 1),
+    ("cu", "Glag", 1),
+    ("en", "Shaw", 1),
+    ("ff", "Adlm", 1),
+    ("grc", "Linb", 1),
+    ("kk", "Arab", 1),
+    ("ku", "Arab", 2),
+    ("ku", "Yezi", 2),
+    ("ky", "Arab", 2),
+    ("ky", "Latn", 2),
+    ("lif", "Limb", 1),
+    ("man", "Nkoo", 1),
+    ("mn", "Mong", 1),
+    ("pa", "Arab", 1),
+    ("pal", "Phlp", 1),
+    ("sd", "Deva", 3),
+    ("sd", "Khoj", 3),
+    ("sd", "Sind", 3),
+    ("tg", "Arab", 1),
+    ("ug", "Cyrl", 1),
+    ("unr", "Deva", 1),
+    ("uz", "Arab", 1),
+    ("yue", "Hans", 1),
+    ("zh", "Bopo", 3),
+    ("zh", "Hanb", 3),
+    ("zh", "Hant", 3),
+];
+
+type Locales<'a, C0, C1, D> = Map2dOver<'a, StrULE, StrULE, SliceULE<u8>, C0, C1, D>;
+
+type Of<'a, K> = <K as ZeroMapKV<'a>>::Container;
+
+// The number of binary digits.
+fn digits(n: usize) -> usize {
+    match n {
+        0 => 0,
+        1 => 1,
+        2 | 3 => 2,
+        _ => 64,
+    }
+}
+
+// Whether a look-up compared, and at most so often.
+fn is_between(count: usize, most: usize) -> bool {
+    0 < count && count <= most
+}
+
+// How many comparisons look-ups make: of a pair in the map, of a row, and of a pair in its row,
+// which are none where there is no such row.
+#[derive(Clone, Copy)]
+struct Comparisons {
+    in_map: usize,
+    of_row: usize,
+    in_row: usize,
+}
+
+// A map of locales, and how many comparisons its look-ups make.
+trait Counts {
+    // Those of the plain look-ups.
+    fn plain(&self, language: &str, script: &str) -> Comparisons;
+
+    // A counted look-up of a pair.
+    fn in_map<L: Ledger>(&self, language: &str, script: &str, steps: &mut Steps<L>) -> usize;
+
+    // A counted look-up of a row.
+    fn of_row<L: Ledger>(&self, language: &str, steps: &mut Steps<L>) -> usize;
+
+    // A counted look-up in a row.
+    fn in_row<L: Ledger>(&self, language: &str, script: &str, steps: &mut Steps<L>) -> usize;
+}
+
+impl<C0, C1, D> Counts for Map2dOver<'_, StrULE, StrULE, SliceULE<u8>, C0, C1, D>
+where
+    C0: ZvContainer<StrULE>,
+    C1: ZvContainer<StrULE>,
+    D: ZvContainer<SliceULE<u8>>,
+{
+    fn plain(&self, language: &str, script: &str) -> Comparisons {
+        let (in_map, of_row, in_row) = (Cell::new(0), Cell::new(0), Cell::new(0));
+        let key0 = CountingKey::new(language, &in_map);
+        let _ = self.get_2d(&key0, &CountingKey::new(script, &in_map));
+        if let Some(row) = self.get0(&CountingKey::new(language, &of_row)) {
+            let _ = row.get1(&CountingKey::new(script, &in_row));
+        }
+        Comparisons {
+            in_map: in_map.get(),
+            of_row: of_row.get(),
+            in_row: in_row.get(),
+        }
+    }
+
+    fn in_map<L: Ledger>(&self, language: &str, script: &str, steps: &mut Steps<L>) -> usize {
+        let count = Cell::new(0);
+        let language = CountingKey::new(language, &count);
+        let script = CountingKey::new(script, &count);
+        let _ = self.get_2d_counted(&language, &script, steps);
+        count.get()
+    }
+
+    fn of_row<L: Ledger>(&self, language: &str, steps: &mut Steps<L>) -> usize {
+        let count = Cell::new(0);
+        let _ = self.get0_counted(&CountingKey::new(language, &count), steps);
+        count.get()
+    }
+
+    fn in_row<L: Ledger>(&self, language: &str, script: &str, steps: &mut Steps<L>) -> usize {
+        let count = Cell::new(0);
+        if let Some(row) = self.get0(&language) {
+            let _ = row.get1_counted(&CountingKey::new(script, &count), steps);
+        }
+        count.get()
+    }
+}
+
+// How many comparisons the counted look-ups make.
+fn counted_from<M: Counts, L: Ledger>(
+    map: &M,
+    language: &str,
+    script: &str,
+    blank: Blank,
+) -> Comparisons
+    requires name { blank.name ≡ L.name }
+    requires parts { blank.parts ≡ L.parts }
+    requires some { 0 < blank.parts }
+{
+    let mut steps = Steps::<L>::start(blank);
+    Comparisons {
+        in_map: map.in_map(language, script, &mut steps),
+        of_row: map.of_row(language, &mut steps),
+        in_row: map.in_row(language, script, &mut steps),
+    }
+}
+
+// The same, with a counter that nobody reads.
+fn counted<M: Counts>(map: &M, language: &str, script: &str) -> Comparisons {
+    counted_from::<M, Brand>(map, language, script, Blank::new(1))
+}
+
+// Look-ups compare at most as often as the numbers of rows, 21, and of the row's pairs have digits.
+fn are_few(rt: &impl Abort, found: Comparisons, scripts: usize) {
+    let most = digits(scripts);
+    assert!(rt; is_between(found.in_map, most.saturating_add(5)));
+    assert!(rt; is_between(found.of_row, 5));
+    assert!(rt; is_between(found.in_row, most));
+}
+
+// The look-ups of each pair do.
+fn halve_their_keys<M: Counts>(rt: &impl Abort, map: &M, pairs: &[(&str, &str, usize)]) {
+    for (language, script, scripts) in pairs {
+        are_few(rt, map.plain(language, script), *scripts);
+        are_few(rt, counted(map, language, script), *scripts);
+    }
+}
+
+// The look-ups in the map of all locales do.
+fn halves_its_keys<'a, C0, C1, D>(rt: &impl Abort) -> Result<(), Fail>
+where
+    C0: MutableZeroVecLike<'a, StrULE>,
+    C1: MutableZeroVecLike<'a, StrULE>,
+    D: MutableZeroVecLike<'a, SliceULE<u8>>,
+{
+    let map = Locales::<'a, C0, C1, D>::parse_parts(KEYS0, JOINER, KEYS1, VALUES)?;
+    assert!(rt; map.rows() == 21);
+    halve_their_keys(rt, &map, &PAIRS);
+    Ok(())
+}
+
+#[test]
+fn look_ups_halve_their_keys(rt: HostRuntime) -> Result<(), Fail> {
+    halves_its_keys::<Of<'_, StrULE>, Of<'_, StrULE>, Of<'_, SliceULE<u8>>>(&rt)
+}
+
+// ---- the languages by themselves
+
+// How many comparisons a counted search for a language among all 21 makes.
+fn in_languages_from<C: ZeroVecSearch<StrULE>, L: Ledger>(
+    languages: &C,
+    language: &str,
+    blank: Blank,
+) -> usize
+    requires name { blank.name ≡ L.name }
+    requires parts { blank.parts ≡ L.parts }
+    requires some { 0 < blank.parts }
+{
+    let count = Cell::new(0);
+    let key = CountingKey::new(language, &count);
+    let _ = languages.zvl_search_counted(&key, 0..21, &mut Steps::<L>::start(blank));
+    count.get()
+}
+
+// The same, with a counter that nobody reads.
+fn in_languages<C: ZeroVecSearch<StrULE>>(languages: &C, language: &str) -> usize {
+    in_languages_from::<C, Brand>(languages, language, Blank::new(1))
+}
+
+// A search for the language of each pair compares at most as often as 21 has digits.
+fn halve_the_languages<'a, C: MutableZeroVecLike<'a, StrULE>>(
+    rt: &impl Abort,
+    pairs: &[(&str, &str, usize)],
+) -> Result<(), Fail> {
+    let languages = C::zvl_parse(KEYS0)?;
+    assert!(rt; languages.zvl_len() == 21);
+    for (language, _, _) in pairs {
+        assert!(rt; is_between(in_languages(&languages, language), 5));
+    }
+    Ok(())
+}
+
+#[test]
+fn searches_halve_the_languages(rt: HostRuntime) -> Result<(), Fail> {
+    halve_the_languages::<Of<'_, StrULE>>(&rt, &PAIRS)
+}

@@ -1,4 +1,0 @@
-use Rattle.zv_map_tests.proofs.one_level.comparisons.Given as goal
-
-abbrev pub ghosts-counts_from : goal.ghosts-counts_from
-ghosts-counts_from a = record { name = a.blank.name; parts = a.blank.parts }

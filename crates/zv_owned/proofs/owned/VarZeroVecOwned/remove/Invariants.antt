@@ -1,4 +1,0 @@
-use Rattle.zv_owned.proofs.owned.VarZeroVecOwned.remove.Given as goal
-
-abbrev pub ghosts-splice_from : goal.ghosts-splice_from
-ghosts-splice_from g a = record { name = a.blank.name; parts = a.blank.parts }

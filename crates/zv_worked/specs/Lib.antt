@@ -1,0 +1,3 @@
+pub mod Faults
+pub mod Lengths
+pub mod Refusals
