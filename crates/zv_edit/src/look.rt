@@ -10,7 +10,7 @@ ghost use Rattle.zv_command.specs.Sending.{Sends};
 ghost use Rattle.zv_edit.specs.Output.{found_line};
 
 use std::alloc::Global;
-use zv_command::{Output, Request, Status, write_found};
+use zv_command::{Output, Request, Status, write_value};
 use zv_devices::{Failed, Sink};
 use zv_image::refuse;
 use zv_input::KeyText;
@@ -41,7 +41,21 @@ pub fn look2d<'a>(
     Ok(view.get_2d(&key0, &key1))
 }
 
-// Writes the line of a value that was found, or of none, and sends it.
+// Writes the line of a value that was found, or of none.
+fn write_looked<K: Sink>(
+    out: &mut Output<'_, K>,
+    value: Option<VarRef<'_, SliceULE<u8>>>,
+) -> Result<(), Failed>
+    ensures { Sends K.taken K.faults out.old out.new result
+        (found_line (option_map element_of value.entry)) }
+{
+    match value {
+        Some(value) => write_value(out, b"some x", value.as_bytes()),
+        None => out.write(b"none\n"),
+    }
+}
+
+// The same, and sends it.
 fn send_found<K: Sink>(
     out: &mut Output<'_, K>,
     value: Option<VarRef<'_, SliceULE<u8>>>,
@@ -50,7 +64,7 @@ fn send_found<K: Sink>(
         (found_line (option_map element_of value.entry)) }
     ensures sent { OnOk result (out.new.piece ≡ []) }
 {
-    write_found(out, value, b"some x", b"none\n")?;
+    write_looked(out, value)?;
     out.send()
 }
 

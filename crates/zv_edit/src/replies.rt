@@ -1,16 +1,14 @@
 // The replies to commands, which are written as they run.
-ghost use Rattle.std.specs.Prelude.{◌≡◌, ◌++◌, true, OnErr, OnOk};
+ghost use Rattle.std.specs.Prelude.{◌≡◌, true, OnErr, OnOk};
 ghost use Rattle.std.specs.List.{flat_map};
-ghost use Rattle.std.specs.Option.{option_map, option_map_or};
-ghost use Rattle.hex.specs.Hex.{encode_lower};
+ghost use Rattle.std.specs.Option.{option_map_or};
 ghost use Rattle.zv_map2d.specs.Fits.{fits_texts};
 ghost use Rattle.zv_map2d.specs.Image.{by_bytes};
 ghost use Rattle.zv_map.specs.Iters.{left_of};
 ghost use Rattle.zv_map2d.specs.Places.{IsPlace};
 ghost use Rattle.zv_map2d.specs.Rows.{find, put};
-ghost use Rattle.zv_ule.specs.Views.{element_of};
 ghost use Rattle.zv_edit.specs.Answers.{reply, next};
-ghost use Rattle.zv_edit.specs.Output.{added, line, old, pair_text, text};
+ghost use Rattle.zv_edit.specs.Output.{added, old, pair_text, text};
 ghost use Rattle.zv_image.specs.Room.{HasRoomOf, SpendsOf};
 ghost use Rattle.zv_input.specs.Sizes.{sizes_of};
 ghost use Rattle.zv_command.specs.Sending.{Sends};
