@@ -4,7 +4,7 @@ use std::cmp::Ordering;
 use std::process::Abort;
 use std::test::Fail;
 use zv_map::{
-    Layout, KvSlice, MutableZeroVecLike, ZeroMapKV, ZeroVecLike, ZeroVecSearch, ZeroVecSearchBy,
+    KvSlice, Layout, MutableZeroVecLike, ZeroMapKV, ZeroVecLike, ZeroVecSearch, ZeroVecSearchBy,
     ZvContainer,
 };
 use zv_ule::{SliceULE, StrULE, VarBox, ZvKind};

@@ -7,7 +7,7 @@ ghost use Rattle.zv_map.specs.declared.view.Layout.TheVariants.{Fixed};
 
 use crate::error::{MapError, TooLarge};
 use crate::vecs::{MutableZeroVecLike, ZeroVecLike, ZvContainer};
-use crate::view::{Layout, KvSlice, RawView};
+use crate::view::{KvSlice, Layout, RawView};
 use std::alloc::Global;
 use zv_fixed::slice::ZeroSlice;
 use zv_fixed::vector::ZeroVec;

@@ -29,4 +29,4 @@ pub use predicate::ZeroVecSearchBy;
 pub use search::ZeroVecSearch;
 pub use variable::MapFormat;
 pub use vecs::{MutableZeroVecLike, ZeroMapKV, ZeroVecLike, ZvContainer};
-pub use view::{Layout, KvSlice, RawView};
+pub use view::{KvSlice, Layout, RawView};

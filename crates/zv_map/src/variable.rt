@@ -16,7 +16,7 @@ ghost use Rattle.zv_map.specs.declared.view.Layout.TheVariants.{Index32 as Layou
 use crate::error::{MapError, TooLarge};
 use crate::search::Indexed;
 use crate::vecs::{MutableZeroVecLike, ZeroVecLike, ZvContainer};
-use crate::view::{Layout, KvSlice, RawView};
+use crate::view::{KvSlice, Layout, RawView};
 use std::alloc::Global;
 use zv_owned::vector::VarZeroVec;
 use zv_owned::{VarZeroVecOwned, VecError};

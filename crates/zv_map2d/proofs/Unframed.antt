@@ -93,8 +93,11 @@ narrow_written Index32 xs e = cc
 -- a map whose lists are in such layouts is written as its canonical image says
 pub texts_written : (m : Map2d) → AreInLayouts (λ l. field_width l == 2) (λ l. field_width l == 2) (λ l. field_width l == 2) m → written_of m ≡ spelling m.rows
 texts_written m h =
-    rw (narrow_written m.keys0.layout (firsts m.rows) h.keys0, narrow_written m.keys1.layout (seconds m.rows) h.keys1,
-    narrow_written m.values.layout (values m.rows) h.values) refl
+    rw (
+      narrow_written m.keys0.layout (firsts m.rows) h.keys0,
+      narrow_written m.keys1.layout (seconds m.rows) h.keys1,
+      narrow_written m.values.layout (values m.rows) h.values,
+    ) refl
 
 -- what reading the parts of an image gives
 module _ (image : List ℕ) (p : Parts) (bytes : IsBytes image) (e : Some p ≡ unframe image) where
