@@ -1,7 +1,7 @@
 -- Texts that an output takes one after another.
-use Rattle.zv_command.proofs.Common.{◌≡◌, ℕ, ◌+◌, min, List, [], ◌++◌, length, take, sym, ◌∙◌, ap, subst, arith, append_assoc, append-nil, refl}
-use Rattle.zv_command.proofs.Common.{Result, Ok, Err, IsOk, IsErr, OnOk, Option, Appends-trans, Appends, Takes, Appends-nil, take-append-add, take-append-le, take_min}
-use Rattle.zv_command.proofs.Common.{AppendsPrefix}
+use Rattle.zv_command.proofs.Common.{◌≡◌, ℕ, ◌+◌, min, List, [], ◌++◌, length, take, sym, ◌∙◌, ap, subst, arith, append_assoc, append-nil, refl, Result}
+use Rattle.zv_command.proofs.Common.{Ok, Err, IsOk, IsErr, OnOk, Option, Appends-trans, Appends, Takes, Appends-nil, take-append-add, take-append-le}
+use Rattle.zv_command.proofs.Common.{take_min, AppendsPrefix}
 use Rattle.zv_command.specs.Sending.{Sends}
 use Rattle.zv_devices.specs.declared.device.Failed.{Failed}
 use Rattle.zv_command.specs.declared.output.Output.{Output}

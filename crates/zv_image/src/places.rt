@@ -1,4 +1,4 @@
-// The map of an image, and what is found and changed in it at the place of a pair of texts.
+// What is found and changed in the map of an image at the place of a pair of texts.
 ghost use Rattle.std.specs.Prelude.{◌≡◌, true};
 ghost use Rattle.std.specs.Option.{option_map};
 ghost use Rattle.zv_map2d.specs.Fits.{fits_texts};
@@ -10,11 +10,8 @@ ghost use Rattle.zv_image.specs.Room.{HasRoomOf, SpendsOf};
 ghost use Rattle.zv_input.specs.Sizes.{sizes_of};
 
 use zv_input::{Command, ValueBytes};
-use zv_map2d::{Place, ZeroMap2d};
-use zv_ule::{SliceULE, StrULE, VarRef};
-
-/// The map of an image.
-pub type ImageMap<'a> = ZeroMap2d<'a, StrULE, StrULE, SliceULE<u8>>;
+use zv_map2d::{ImageMap, Place};
+use zv_ule::{SliceULE, VarRef};
 
 /// Where a pair of keys is, or would be.
 pub fn find_place(map: &ImageMap<'_>, key0: &str, key1: &str) -> Place

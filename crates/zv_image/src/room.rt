@@ -4,10 +4,9 @@ ghost use Rattle.zv_map2d.specs.Rows.{seconds};
 ghost use Rattle.zv_image.specs.Room.{HasRoomOf};
 ghost use Rattle.zv_input.specs.Sizes.{put_sizes};
 
-use crate::places::ImageMap;
 use std::alloc::Global;
 use zv_input::Commands;
-use zv_map2d::Map2dError;
+use zv_map2d::{ImageMap, Map2dError};
 use zv_ule::NoMemory;
 
 /// Makes the vectors of an image's map the map's own, with room for the puts among commands, so
