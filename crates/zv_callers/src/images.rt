@@ -71,6 +71,7 @@ pub fn put_entry(table: &mut StoredTable<'_>, entry: Entry<'_>) -> Result<(), Ma
 }
 
 /// Takes a language in a script out, if it is there. It takes no memory.
+#[tactic(auto, using(crate::proofs::TwoPuts::owned_after))]
 pub fn discard_keys(table: &mut StoredTable<'_>, keys: Keys<'_>)
     requires { IsOwned table.old }
     ensures rows { table.new.rows ≡ without table.old.rows keys }
@@ -80,6 +81,7 @@ pub fn discard_keys(table: &mut StoredTable<'_>, keys: Keys<'_>)
 }
 
 /// Puts two entries, one after the other, in room for both.
+#[tactic(auto, using(crate::proofs::TwoPuts::room_for_first, crate::proofs::TwoPuts::room_for_second, crate::proofs::TwoPuts::owned_after))]
 fn put_both(
     table: &mut StoredTable<'_>,
     first: Entry<'_>,
