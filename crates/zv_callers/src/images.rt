@@ -54,6 +54,7 @@ fn reserve_for_two(
 ///
 /// # Errors
 /// `TooLarge` where the value does not fit. The table is unchanged then.
+#[tactic(auto, using(crate::proofs::TwoPuts::owned_after))]
 pub fn put_entry(table: &mut StoredTable<'_>, entry: Entry<'_>) -> Result<(), Map2dError>
     requires room { HasRoomFor 2 2 2 (length entry.keys.language.now)
         (length entry.keys.script.now) (length entry.value.now) 1 table.old }
@@ -62,6 +63,7 @@ pub fn put_entry(table: &mut StoredTable<'_>, entry: Entry<'_>) -> Result<(), Ma
     ensures refused { IfErr result (λ e. e ≡ Map2dError.TooLarge) }
     ensures spends { SpendsFor 2 2 2 (length entry.keys.language.now)
         (length entry.keys.script.now) (length entry.value.now) 1 table.old table.new }
+    ensures owned { IsOwned table.new }
 {
     let value = VarRef::of_bytes(entry.value);
     match table.put_reserved(&entry.keys.language, &entry.keys.script, &value) {
@@ -81,7 +83,7 @@ pub fn discard_keys(table: &mut StoredTable<'_>, keys: Keys<'_>)
 }
 
 /// Puts two entries, one after the other, in room for both.
-#[tactic(auto, using(crate::proofs::TwoPuts::room_for_first, crate::proofs::TwoPuts::room_for_second, crate::proofs::TwoPuts::owned_after))]
+#[tactic(auto, using(crate::proofs::TwoPuts::first_room, crate::proofs::TwoPuts::second_room))]
 fn put_both(
     table: &mut StoredTable<'_>,
     first: Entry<'_>,
