@@ -13,5 +13,6 @@ abbrev pub without : Rows → Keys → Rows
 without m k = del by_bytes by_bytes m k.language.now k.script.now
 
 -- the rows after two puts and then two discards
-abbrev pub changed : Rows → Entry → Entry → Keys → Keys → Rows
-changed m a b c d = without (without (with_entry (with_entry m a) b) c) d
+abbrev pub changed : Rows → Entry × Entry → Keys × Keys → Rows
+changed m puts discards =
+    without (without (with_entry (with_entry m puts.0) puts.1) discards.0) discards.1

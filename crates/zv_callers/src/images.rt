@@ -1,6 +1,7 @@
 // A table that is stored as an image: read in the image's bytes, changed in room that is made once,
 // and written as the parts of another image.
-ghost use Rattle.std.specs.Prelude.{◌≡◌, ◌+◌, IfErr, IfOk, OnErr, OnOk, length, result_err};
+ghost use Rattle.std.specs.Prelude.{◌≡◌, ◌+◌, IfErr, IfOk, OnErr, OnOk, length};
+ghost use Rattle.std.specs.Result.{result_err};
 ghost use Rattle.zv_map2d.specs.Image.{Stands, by_bytes, fault, spelling};
 ghost use Rattle.zv_map2d.specs.Room.{HasRoomFor, IsOwned, SpendsFor};
 ghost use Rattle.zv_map2d.specs.Rows.{Rows};
@@ -37,9 +38,9 @@ fn reserve_for_two(
 ) -> Result<(), Map2dError>
     ensures rows { table.new.rows ≡ table.old.rows }
     ensures room { OnOk result (HasRoomFor 2 2 2
-        (length first.keys.language.now + length second.keys.language.now)
-        (length first.keys.script.now + length second.keys.script.now)
-        (length first.value.now + length second.value.now) 2 table.new) }
+        (length first.entry.keys.language.now + length second.entry.keys.language.now)
+        (length first.entry.keys.script.now + length second.entry.keys.script.now)
+        (length first.entry.value.now + length second.entry.value.now) 2 table.new) }
 {
     table.reserve_for(
         alloc,
@@ -54,32 +55,36 @@ fn reserve_for_two(
 ///
 /// # Errors
 /// `TooLarge` where the value does not fit. The table is unchanged then.
-pub fn put_entry(table: &mut StoredTable<'_>, entry: Entry<'_>) -> Result<(), Map2dError>
-    requires room { HasRoomFor 2 2 2 (length entry.keys.language.now)
-        (length entry.keys.script.now) (length entry.value.now) 1 table.old }
-    ensures rows { OnOk result (table.new.rows ≡ with_entry table.old.rows entry) }
+#[tactic(auto, using(crate::proofs::TwoPuts::owned_after))]
+pub fn put_entry(table: &mut StoredTable<'_>, item: Entry<'_>) -> Result<(), Map2dError>
+    requires room { HasRoomFor 2 2 2 (length item.keys.language.now)
+        (length item.keys.script.now) (length item.value.now) 1 table.old }
+    ensures rows { OnOk result (table.new.rows ≡ with_entry table.old.rows item.entry) }
     ensures err { OnErr result (table.new ≡ table.old) }
     ensures refused { IfErr result (λ e. e ≡ Map2dError.TooLarge) }
-    ensures spends { SpendsFor 2 2 2 (length entry.keys.language.now)
-        (length entry.keys.script.now) (length entry.value.now) 1 table.old table.new }
+    ensures spends { SpendsFor 2 2 2 (length item.entry.keys.language.now)
+        (length item.entry.keys.script.now) (length item.entry.value.now) 1 table.old table.new }
+    ensures owned { IsOwned table.new }
 {
-    let value = VarRef::of_bytes(entry.value);
-    match table.put_reserved(&entry.keys.language, &entry.keys.script, &value) {
+    let value = VarRef::of_bytes(item.value);
+    match table.put_reserved(&item.keys.language, &item.keys.script, &value) {
         Ok(_) => Ok(()),
         Err(_) => Err(Map2dError::TooLarge),
     }
 }
 
 /// Takes a language in a script out, if it is there. It takes no memory.
+#[tactic(auto, using(crate::proofs::TwoPuts::owned_after))]
 pub fn discard_keys(table: &mut StoredTable<'_>, keys: Keys<'_>)
     requires { IsOwned table.old }
-    ensures rows { table.new.rows ≡ without table.old.rows keys }
+    ensures rows { table.new.rows ≡ without table.old.rows keys.entry }
     ensures owned { IsOwned table.new }
 {
     table.discard(&keys.language, &keys.script);
 }
 
 /// Puts two entries, one after the other, in room for both.
+#[tactic(auto, using(crate::proofs::TwoPuts::first_room, crate::proofs::TwoPuts::second_room))]
 fn put_both(
     table: &mut StoredTable<'_>,
     first: Entry<'_>,
@@ -90,7 +95,7 @@ fn put_both(
         (length first.keys.script.now + length second.keys.script.now)
         (length first.value.now + length second.value.now) 2 table.old }
     ensures rows { OnOk result
-        (table.new.rows ≡ with_entry (with_entry table.old.rows first) second) }
+        (table.new.rows ≡ with_entry (with_entry table.old.rows first.entry) second.entry) }
     ensures owned { OnOk result (IsOwned table.new) }
     ensures refused { IfErr result (λ e. e ≡ Map2dError.TooLarge) }
 {
@@ -111,7 +116,7 @@ pub fn change_table(
     discards: (Keys<'_>, Keys<'_>),
 ) -> Result<(), Map2dError>
     ensures rows { OnOk result
-        (table.new.rows ≡ changed table.old.rows puts.0 puts.1 discards.0 discards.1) }
+        (table.new.rows ≡ changed table.old.rows puts.entry discards.entry) }
     ensures untouched { IfErr result (λ e. (e ≡ Map2dError.TooLarge → ⊥) →
         table.new.rows ≡ table.old.rows) }
 {
@@ -135,7 +140,7 @@ pub fn change_image<'a>(
     ensures error { result_err result ≡ fault image.now }
     ensures rows { IfOk result (λ outcome. IfOk outcome (λ table. (m : Rows)
         × Stands image.now m
-        × (table.rows ≡ changed m puts.0 puts.1 discards.0 discards.1))) }
+        × (table.rows ≡ changed m puts.entry discards.entry))) }
 {
     let mut table = parse_image(image)?;
     match change_table(alloc, &mut table, puts, discards) {

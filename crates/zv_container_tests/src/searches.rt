@@ -1,16 +1,12 @@
 // Searches in containers: what they answer in a range, and how often they compare, counted by the
 // key itself.
-ghost use Rattle.std.specs.Prelude.{◌≡◌, ℕ, ◌<◌};
-
 use std::cell::Cell;
 use std::cmp::Ordering;
-use std::marker::Brand;
 use std::process::Abort;
-use std::sync::ledger::{Blank, Ledger};
 use std::test::Fail;
 use zv_counting::CountingKey;
 use zv_map::{MutableZeroVecLike, ZeroMapKV, ZeroVecSearch, ZeroVecSearchBy};
-use zv_ule::{Steps, StrULE};
+use zv_ule::StrULE;
 
 type Of<'a, K> = <K as ZeroMapKV<'a>>::Container;
 
@@ -76,62 +72,11 @@ fn comparisons<C: ZeroVecSearch<StrULE>>(list: &C, text: &str) -> usize {
     count.get()
 }
 
-// How many a counted search in a range makes.
-fn counted_comparisons_from<C: ZeroVecSearch<StrULE>, L: Ledger>(
-    list: &C,
-    text: &str,
-    start: usize,
-    end: usize,
-    blank: Blank,
-) -> usize
-    requires name { blank.name ≡ L.name }
-    requires parts { blank.parts ≡ L.parts }
-    requires some { 0 < blank.parts }
-{
-    let count = Cell::new(0);
-    let mut steps = Steps::<L>::start(blank);
-    let _ = list.zvl_search_counted(&CountingKey::new(text, &count), start..end, &mut steps);
-    count.get()
-}
-
-// The same, with a counter that nobody reads.
-fn counted_comparisons<C: ZeroVecSearch<StrULE>>(
-    list: &C,
-    text: &str,
-    start: usize,
-    end: usize,
-) -> usize {
-    counted_comparisons_from::<C, Brand>(list, text, start, end, Blank::new(1))
-}
-
 // A search among seven texts compares at least once, and at most three times.
 fn compares_up_to_three_times<C: ZeroVecSearch<StrULE>>(rt: &impl Abort, list: &C) {
     for text in ["a", "b", "c", "d", "e", "f", "g", "aa", "h"] {
-        let plain = comparisons(list, text);
-        assert!(rt; (1..=3).contains(&plain));
-        let counted = counted_comparisons(list, text, 0, 7);
-        assert!(rt; (1..=3).contains(&counted));
-    }
-}
-
-// The start and the end of a range, and how often a search there compares at most: as often as its
-// length has binary digits, and never where it isn't a range of the seven.
-const MOST: [(usize, usize, usize); 7] = [
-    (0, 7, 3),
-    (2, 5, 2),
-    (0, 2, 2),
-    (6, 7, 1),
-    (3, 3, 0),
-    (0, 100, 0),
-    (5, 2, 0),
-];
-
-// A search in a range compares so often at most.
-fn compares_by_the_range<C: ZeroVecSearch<StrULE>>(rt: &impl Abort, list: &C) {
-    for (start, end, most) in MOST {
-        for text in ["a", "c", "d", "g", "dd", "h"] {
-            assert!(rt; counted_comparisons(list, text, start, end) <= most);
-        }
+        let count = comparisons(list, text);
+        assert!(rt; (1..=3).contains(&count));
     }
 }
 
@@ -139,7 +84,6 @@ fn compares_by_the_range<C: ZeroVecSearch<StrULE>>(rt: &impl Abort, list: &C) {
 fn is_halved<'a, C: MutableZeroVecLike<'a, StrULE>>(rt: &impl Abort) -> Result<(), Fail> {
     let list = C::zvl_parse(b"\x07\0\x01\0\x02\0\x03\0\x04\0\x05\0\x06\0abcdefg")?;
     compares_up_to_three_times(rt, &list);
-    compares_by_the_range(rt, &list);
     Ok(())
 }
 

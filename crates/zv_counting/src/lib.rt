@@ -9,8 +9,10 @@ use zv_ule::{Steps, StrULE, ZvArg, ZvOrdArg};
 /// A text that counts how often it is compared.
 #[derive(Drop)]
 pub struct CountingKey<'c> {
-    text: &'c str,
-    count: &'c Cell<usize>,
+    /// The text.
+    pub text: &'c str,
+    /// How often it was compared.
+    pub count: &'c Cell<usize>,
 }
 
 impl<'c> CountingKey<'c> {

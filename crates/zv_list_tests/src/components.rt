@@ -127,9 +127,10 @@ fn finds_counted<F: VarZeroVecFormat, L: Ledger>(
 ) {
     let components = list.components();
     for (text, start, end, place) in searches {
-        let found = list.binary_search_in_range_counted(text, *start..*end, steps);
+        let text = *text;
+        let found = list.binary_search_in_range_counted(&text, *start..*end, steps);
         assert!(rt; found == *place);
-        let found = components.binary_search_in_range_counted(text, *start..*end, steps);
+        let found = components.binary_search_in_range_counted(&text, *start..*end, steps);
         assert!(rt; found == *place);
     }
 }

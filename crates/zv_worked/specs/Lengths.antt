@@ -1,6 +1,6 @@
 -- Worked lengths of values that are written as a list, at the edges of what a field holds.
-use Rattle.std.specs.Prelude.{◌≡◌, ℕ, List, [], ◌∷◌, Option, Some, None, Bool, true, is_empty, not}
-use Rattle.std.specs.Prelude.{◌++◌, replicate}
+use Rattle.std.specs.Prelude.{◌≡◌, ℕ, List, [], ◌∷◌, ◌++◌, length, replicate, Some, None}
+use Rattle.std.specs.Prelude.{Bool, true, nat_lt}
 use Rattle.zv_var.specs.Serialize.{lengthless_len, serialized_len, with_count}
 
 -- every value has a spelling
@@ -37,7 +37,7 @@ StartsFill = lengthless_len always itself 1 (replicate 200 97 ∷ one_of 54) ≡
 
 -- a value with no spelling has no length, whatever the others are
 abbrev pub UnfitIsRefused : Type 0
-UnfitIsRefused = lengthless_len (λ b. not (is_empty b)) itself 1 (one_of 3 ++ one_of 0) ≡ None
+UnfitIsRefused = lengthless_len (λ b. nat_lt 0 (length b)) itself 1 (one_of 3 ++ one_of 0) ≡ None
 
 -- with fields of two bytes, a value may have 65,534 bytes, with the count 65,536
 abbrev pub LargestOfTwoBytes : Type 0

@@ -1,4 +1,0 @@
-use Rattle.zv_container_tests.proofs.searches.counted_comparisons.Given as goal
-
-abbrev pub ghosts-counted_comparisons_from : goal.ghosts-counted_comparisons_from
-ghosts-counted_comparisons_from a = record { name = a.blank.name; parts = a.blank.parts }
