@@ -16,7 +16,7 @@ pub use Rattle.zv_input.specs.Input.{lines}
 pub use Rattle.zv_input.specs.Words.{Lacks}
 pub use Rattle.zv_command.specs.Due.{Due, Sent, Tells, is_answer, is_silent, is_written, code_of}
 pub use Rattle.zv_command.specs.Reading.{kept_size, outcome_of, outcome_with, size_of}
-pub use Rattle.zv_command.specs.Requests.{due_or, input_due, request_of}
+pub use Rattle.zv_command.specs.Inputs.{due_or, input_due, request_of}
 pub use Rattle.zv_command.specs.Runs.{Runs, Wanted, of_input, at_once}
 pub use Rattle.zv_command.specs.Text.{bad_line}
 pub use Rattle.zv_command.specs.declared.reader.TheConstants.{MAX_INPUT}

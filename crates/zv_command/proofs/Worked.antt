@@ -4,7 +4,7 @@ use Rattle.zv_command.proofs.Common.{Status, Done, Usage, ReadFault, TooLong, Ba
 use Rattle.std.specs.Fmt.{digits}
 use Rattle.hex.specs.Hex.{decode_pairs, encode_with}
 use Rattle.std.specs.Prelude.{Option, bytes_eq, if◌then◌else◌, None}
-use Rattle.zv_command.specs.Requests.{request_of}
+use Rattle.zv_command.specs.Inputs.{request_of}
 use Rattle.zv_command.specs.Text.{hex_field}
 
 -- LF

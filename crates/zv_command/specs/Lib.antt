@@ -1,6 +1,6 @@
 pub mod Due
+pub mod Inputs
 pub mod Reading
-pub mod Requests
 pub mod Runs
 pub mod Sending
 pub mod Text

@@ -6,7 +6,7 @@ use Rattle.std.specs.declared.option.Option.{Option}
 use Rattle.std.specs.declared.option.Option.TheVariants.{Some, None}
 use Rattle.std.specs.declared.result.Result.TheVariants.{Ok, Err}
 use Rattle.zv_input.specs.Input.{lines}
-use Rattle.zv_command.specs.Requests.{first_and, with_all, with_lines}
+use Rattle.zv_command.specs.Inputs.{first_and, with_all, with_lines}
 use Rattle.zv_command.specs.declared.reader.Progress.{Progress}
 use Rattle.zv_command.specs.declared.reader.ReadError.{ReadError}
 use Rattle.zv_command.specs.declared.reader.ReadError.TheVariants.{BadLine}

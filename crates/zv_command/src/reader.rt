@@ -5,7 +5,7 @@ ghost use Rattle.std.specs.Io.KnownBytes.{IsAtEnd};
 ghost use Rattle.zv_devices.specs.Devices.{Rose};
 ghost use Rattle.zv_input.specs.Input.{lines};
 ghost use Rattle.zv_input.specs.Words.{Lacks};
-ghost use Rattle.zv_command.specs.Requests.{request_of};
+ghost use Rattle.zv_command.specs.Inputs.{request_of};
 ghost use Rattle.zv_command.specs.Reading.{IsReadAs, is_read, kept_size, outcome_of, outcome_with};
 ghost use Rattle.zv_command.specs.Reading.{size_of};
 
@@ -136,7 +136,7 @@ pub(crate) struct Reader<C> {
 
 impl<C: Request> Reader<C> {
     /// Nothing was read yet.
-    #[tactic(auto, unfolding(crate::specs::Requests::request_of, crate::specs::Reading::outcome_of))]
+    #[tactic(auto, unfolding(crate::specs::Inputs::request_of, crate::specs::Reading::outcome_of))]
     fn new(alloc: Global, request: C) -> Reader<C>
         ensures same { (rest : List ℕ) → request_of C.with_line request rest
             ≡ outcome_with C.with_line result rest }

@@ -1,7 +1,7 @@
 // Requests.
 ghost use Rattle.std.specs.Prelude.{◌≡◌, ◌≤◌, ◌+◌, List, ℕ, Option, IfOk, OnOk, length};
 ghost use Rattle.zv_command.specs.Due.{Tells};
-ghost use Rattle.zv_command.specs.Requests.{AddsLine};
+ghost use Rattle.zv_command.specs.Inputs.{AddsLine};
 
 use crate::reader::MAX_INPUT;
 use crate::status::Status;

@@ -1,6 +1,6 @@
 // Reads and answers any request.
 ghost use Rattle.std.specs.Prelude.{◌≡◌};
-ghost use Rattle.zv_command.specs.Requests.{input_due};
+ghost use Rattle.zv_command.specs.Inputs.{input_due};
 ghost use Rattle.zv_command.specs.Runs.{Runs, Wanted};
 
 use crate::reader::{ReadError, read_input};

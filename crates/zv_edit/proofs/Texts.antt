@@ -4,7 +4,7 @@ use Rattle.std.specs.Prelude.{IfOk}
 use Rattle.zv_ule.proofs.Lists.{all_append}
 use Rattle.zv_input.proofs.Fields.{line_command}
 use Rattle.zv_input.specs.Input.{lines}
-use Rattle.zv_command.specs.Requests.{request_of, with_all, with_lines}
+use Rattle.zv_command.specs.Inputs.{request_of, with_all, with_lines}
 
 lines_texts : (n : ℕ) (cs : List Command) (ls : List (List ℕ)) → AllByRecursion OfTexts cs → IfOk (with_lines with_command n cs ls) (AllByRecursion OfTexts)
 lines_texts n cs [] texts = texts

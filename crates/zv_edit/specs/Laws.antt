@@ -7,7 +7,7 @@ use Rattle.zv_map2d_laws.specs.Laws.{IsCodable}
 use Rattle.zv_map2d.specs.Rows.{Rows}
 use Rattle.zv_input.specs.Commands.{OfTexts}
 use Rattle.zv_input.specs.declared.command.Command.{Command}
-use Rattle.zv_command.specs.Requests.{request_of}
+use Rattle.zv_command.specs.Inputs.{request_of}
 use Rattle.zv_edit.specs.Answers.{answers, last}
 use Rattle.zv_edit.specs.Requests.{with_command}
 use Rattle.zv_image.specs.Text.{image_line}

@@ -15,9 +15,9 @@ ghost use Rattle.zv_command.specs.Sending.{Sends};
 
 use zv_command::{Output, write_found};
 use zv_devices::{Failed, Sink};
-use zv_image::{ImageMap, discard, find_place, fits, put_fitting, value_at};
+use zv_image::{discard, find_place, fits, put_fitting, value_at};
 use zv_input::{Command, KeyText, ValueBytes};
-use zv_map2d::{Iter1, Place};
+use zv_map2d::{ImageMap, Iter1, Place};
 use zv_ule::{SliceULE, StrULE};
 
 // Writes a pair of a row.

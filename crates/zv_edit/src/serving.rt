@@ -9,8 +9,9 @@ ghost use Rattle.zv_command.specs.Sending.{Sends};
 use crate::replies::run_command;
 use zv_command::Output;
 use zv_devices::{Failed, Sink};
-use zv_image::{ImageMap, write_image};
+use zv_image::write_image;
 use zv_input::Commands;
+use zv_map2d::ImageMap;
 
 // Runs commands, writes their replies, and sends them.
 fn run_commands<K: Sink>(

@@ -34,13 +34,7 @@ pub fn value_at<'m>(
 }
 
 /// Whether a value for a pair of keys fits at its place.
-pub fn fits(
-    map: &ImageMap<'_>,
-    place: Place,
-    key0: &str,
-    key1: &str,
-    value: &ValueBytes,
-) -> bool
+pub fn fits(map: &ImageMap<'_>, place: Place, key0: &str, key1: &str, value: &ValueBytes) -> bool
     requires { IsPlace by_bytes by_bytes map.now.rows key0.now key1.now place }
     ensures { result ≡ fits_texts map.now.rows key0.now key1.now value.now }
 {
@@ -50,13 +44,7 @@ pub fn fits(
 }
 
 /// Gives a pair of keys a value, which fits, at its place.
-pub fn put_fitting(
-    map: &mut ImageMap<'_>,
-    place: Place,
-    key0: &str,
-    key1: &str,
-    value: &ValueBytes,
-)
+pub fn put_fitting(map: &mut ImageMap<'_>, place: Place, key0: &str, key1: &str, value: &ValueBytes)
     requires place { IsPlace by_bytes by_bytes map.old.rows key0.now key1.now place }
     requires fits { fits_texts map.old.rows key0.now key1.now value.now ≡ true }
     requires room { HasRoomOf (sizes_of (Command.Put key0.now key1.now value.now)) map.old }

@@ -11,11 +11,7 @@ use zv_ule::NoMemory;
 
 /// Makes the vectors of an image's map the map's own, with room for the puts among commands, so
 /// that no command takes memory.
-pub fn reserve(
-    alloc: Global,
-    map: &mut ImageMap<'_>,
-    commands: &Commands,
-) -> Result<(), NoMemory>
+pub fn reserve(alloc: Global, map: &mut ImageMap<'_>, commands: &Commands) -> Result<(), NoMemory>
     requires { length (seconds map.old.rows) ≤ 65535 }
     ensures rows { map.new.rows ≡ map.old.rows }
     ensures room { OnOk result (HasRoomOf (put_sizes commands.now) map.new) }

@@ -13,8 +13,8 @@ mod lines;
 mod sizes;
 
 pub use command::{Command, KeyText, ValueBytes};
-pub use commands::{Commands, CommandsError, MAX_COMMANDS};
 pub use command_line::read_command;
+pub use commands::{Commands, CommandsError, MAX_COMMANDS};
 pub use field::{read_field, read_key};
 pub use lines::split_at_byte;
 pub use sizes::PutSizes;

@@ -3,7 +3,7 @@ use Rattle.std.proofs.Common.{◌≡◌, ◌∷◌, [], List, ℕ, refl, codes, 
 use Rattle.std.specs.Prelude.{map}
 use Rattle.std.specs.Str.{is_utf8, chars}
 use Rattle.hex.specs.Hex.{decode_pairs}
-use Rattle.zv_command.specs.Requests.{input_due}
+use Rattle.zv_command.specs.Inputs.{input_due}
 use Rattle.zv_command.specs.Runs.{of_input}
 use Rattle.zv_edit.specs.Requests.{edit_due, with_command}
 use Rattle.zv_tool.specs.Forms.{form_of, is_read, names_form, wanted}

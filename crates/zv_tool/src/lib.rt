@@ -12,7 +12,6 @@ pub use zv_devices::{
     CountSink, Failed, MemSink, MemSource, Sink, Source, StdSink, StdSource, SteadySource,
 };
 pub use zv_edit::{Edit, Look, edit2d, laws, look2d, serve};
-pub use zv_image::ImageMap;
 pub use zv_input::{Command, Commands, CommandsError, KeyText, MAX_COMMANDS, ValueBytes};
-pub use zv_map2d::{EditError, parse_image};
+pub use zv_map2d::{EditError, ImageMap, parse_image};
 pub use zv_ule::NoMemory;
