@@ -11,6 +11,10 @@ abbrev pub AddsLine : {A : Type 0} → Option A → A → Bool → Type 0
 AddsLine added new true = added ≡ Some new
 AddsLine added new false = added ≡ None
 
+-- no line follows the first
+abbrev pub with_no_line : {A : Type 0} → A → List ℕ → Option A
+with_no_line a line = None
+
 -- what the rest makes of what line n made, or its number where it is bad
 abbrev pub line_and : {A : Type 0} → ℕ → Option A → (A → Result A ℕ) → Result A ℕ
 line_and n None rest = Err n

@@ -4,8 +4,7 @@ use Rattle.zv_edit.proofs.Common.{answers, last, reply_lines, replies, some, pai
 use Rattle.std.specs.Str.{is_utf8, chars}
 use Rattle.hex.specs.Hex.{decode_pairs, encode_with}
 use Rattle.zv_map2d_laws.specs.Locales.{locales}
-use Rattle.zv_command.specs.Inputs.{request_of}
-use Rattle.zv_edit.specs.Requests.{with_no_line}
+use Rattle.zv_command.specs.Inputs.{request_of, with_no_line}
 use Rattle.zv_edit.specs.declared.look.Look.{Look}
 
 -- what stands first in each row gives what stands second

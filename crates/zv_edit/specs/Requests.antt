@@ -2,7 +2,6 @@
 use Rattle.std.specs.Prelude.{◌≡◌, ℕ, List, [], ◌∷◌, ◌++◌}
 use Rattle.std.specs.Option.{option_map}
 use Rattle.std.specs.declared.option.Option.{Option}
-use Rattle.std.specs.declared.option.Option.TheVariants.{None}
 use Rattle.zv_map2d.specs.Image.{Stands}
 use Rattle.zv_map2d.specs.Rows.{Rows}
 use Rattle.zv_input.specs.Input.{command_of_words, words}
@@ -24,9 +23,6 @@ abbrev pub edit_due : List ℕ → List Command → Due
 edit_due image cs = image_due image (IsAnswer image cs)
 
 -- ---- look: no line follows the image
-
-abbrev pub with_no_line : Look → List ℕ → Option Look
-with_no_line look line = None
 
 -- The line of what the pair of keys has in the map that the image stands for.
 abbrev pub IsLooked : List ℕ → Look → List ℕ → Type 0

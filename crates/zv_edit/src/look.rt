@@ -87,7 +87,8 @@ pub struct Look {
 }
 
 impl Request for Look {
-    ghost use Rattle.zv_edit.specs.Requests.{look_due, with_no_line};
+    ghost use Rattle.zv_command.specs.Inputs.{with_no_line};
+    ghost use Rattle.zv_edit.specs.Requests.{look_due};
 
     ghost with_line = { with_no_line };
 

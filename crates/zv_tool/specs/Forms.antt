@@ -5,11 +5,11 @@ use Rattle.std.specs.declared.option.Option.TheVariants.{Some, None}
 use Rattle.zv_input.specs.Digits.{◌>>=◌}
 use Rattle.zv_input.specs.Input.{key, three_words}
 use Rattle.zv_command.specs.Due.{text_due}
-use Rattle.zv_command.specs.Inputs.{input_due}
+use Rattle.zv_command.specs.Inputs.{input_due, with_no_line}
 use Rattle.zv_command.specs.Runs.{Wanted, at_once, of_input, reads_input}
 use Rattle.zv_command.specs.Text.{line}
 use Rattle.zv_command.specs.declared.status.Status.TheVariants.{Usage}
-use Rattle.zv_edit.specs.Requests.{edit_due, look_due, with_command, with_no_line}
+use Rattle.zv_edit.specs.Requests.{edit_due, look_due, with_command}
 use Rattle.zv_tool.specs.declared.form.Form.{Form}
 use Rattle.zv_tool.specs.declared.form.Form.TheVariants.{Edit, Look}
 
