@@ -8,7 +8,7 @@ use std::process::Abort;
 use std::sync::ledger::{Blank, Ledger};
 use std::test::Fail;
 use zv_counting::CountingKey;
-use zv_map::{MutableZeroVecLike, ZeroMapKV, ZeroVecSearch, ZvContainer};
+use zv_map::{MutableZeroVecLike, ZeroMapKV, ZvContainer};
 use zv_map2d::Map2dOver;
 use zv_ule::{SliceULE, Steps, StrULE};
 
@@ -95,86 +95,63 @@ struct Comparisons {
     in_row: usize,
 }
 
-// A map of locales, and how many comparisons its look-ups make.
-trait Counts {
-    // Those of the plain look-ups.
-    fn plain(&self, language: &str, script: &str) -> Comparisons;
-
-    // A counted look-up of a pair.
-    fn in_map<L: Ledger>(&self, language: &str, script: &str, steps: &mut Steps<L>) -> usize;
-
-    // A counted look-up of a row.
-    fn of_row<L: Ledger>(&self, language: &str, steps: &mut Steps<L>) -> usize;
-
-    // A counted look-up in a row.
-    fn in_row<L: Ledger>(&self, language: &str, script: &str, steps: &mut Steps<L>) -> usize;
-}
-
-impl<C0, C1, D> Counts for Map2dOver<'_, StrULE, StrULE, SliceULE<u8>, C0, C1, D>
+// How many comparisons the plain look-ups make.
+fn plain<C0, C1, D>(map: &Locales<'_, C0, C1, D>, language: &str, script: &str) -> Comparisons
 where
     C0: ZvContainer<StrULE>,
     C1: ZvContainer<StrULE>,
     D: ZvContainer<SliceULE<u8>>,
 {
-    fn plain(&self, language: &str, script: &str) -> Comparisons {
-        let (in_map, of_row, in_row) = (Cell::new(0), Cell::new(0), Cell::new(0));
-        let key0 = CountingKey::new(language, &in_map);
-        let _ = self.get_2d(&key0, &CountingKey::new(script, &in_map));
-        if let Some(row) = self.get0(&CountingKey::new(language, &of_row)) {
-            let _ = row.get1(&CountingKey::new(script, &in_row));
-        }
-        Comparisons {
-            in_map: in_map.get(),
-            of_row: of_row.get(),
-            in_row: in_row.get(),
-        }
+    let (in_map, of_row, in_row) = (Cell::new(0), Cell::new(0), Cell::new(0));
+    let key0 = CountingKey::new(language, &in_map);
+    let _ = map.get_2d(&key0, &CountingKey::new(script, &in_map));
+    if let Some(row) = map.get0(&CountingKey::new(language, &of_row)) {
+        let _ = row.get1(&CountingKey::new(script, &in_row));
     }
-
-    fn in_map<L: Ledger>(&self, language: &str, script: &str, steps: &mut Steps<L>) -> usize {
-        let count = Cell::new(0);
-        let language = CountingKey::new(language, &count);
-        let script = CountingKey::new(script, &count);
-        let _ = self.get_2d_counted(&language, &script, steps);
-        count.get()
-    }
-
-    fn of_row<L: Ledger>(&self, language: &str, steps: &mut Steps<L>) -> usize {
-        let count = Cell::new(0);
-        let _ = self.get0_counted(&CountingKey::new(language, &count), steps);
-        count.get()
-    }
-
-    fn in_row<L: Ledger>(&self, language: &str, script: &str, steps: &mut Steps<L>) -> usize {
-        let count = Cell::new(0);
-        if let Some(row) = self.get0(&language) {
-            let _ = row.get1_counted(&CountingKey::new(script, &count), steps);
-        }
-        count.get()
+    Comparisons {
+        in_map: in_map.get(),
+        of_row: of_row.get(),
+        in_row: in_row.get(),
     }
 }
 
 // How many comparisons the counted look-ups make.
-fn counted_from<M: Counts, L: Ledger>(
-    map: &M,
+fn counted_from<C0, C1, D, L: Ledger>(
+    map: &Locales<'_, C0, C1, D>,
     language: &str,
     script: &str,
     blank: Blank,
 ) -> Comparisons
+where
+    C0: ZvContainer<StrULE>,
+    C1: ZvContainer<StrULE>,
+    D: ZvContainer<SliceULE<u8>>,
     requires name { blank.name ≡ L.name }
     requires parts { blank.parts ≡ L.parts }
     requires some { 0 < blank.parts }
 {
     let mut steps = Steps::<L>::start(blank);
+    let (in_map, of_row, in_row) = (Cell::new(0), Cell::new(0), Cell::new(0));
+    let key0 = CountingKey::new(language, &in_map);
+    let _ = map.get_2d_counted(&key0, &CountingKey::new(script, &in_map), &mut steps);
+    if let Some(row) = map.get0_counted(&CountingKey::new(language, &of_row), &mut steps) {
+        let _ = row.get1_counted(&CountingKey::new(script, &in_row), &mut steps);
+    }
     Comparisons {
-        in_map: map.in_map(language, script, &mut steps),
-        of_row: map.of_row(language, &mut steps),
-        in_row: map.in_row(language, script, &mut steps),
+        in_map: in_map.get(),
+        of_row: of_row.get(),
+        in_row: in_row.get(),
     }
 }
 
 // The same, with a counter that nobody reads.
-fn counted<M: Counts>(map: &M, language: &str, script: &str) -> Comparisons {
-    counted_from::<M, Brand>(map, language, script, Blank::new(1))
+fn counted<C0, C1, D>(map: &Locales<'_, C0, C1, D>, language: &str, script: &str) -> Comparisons
+where
+    C0: ZvContainer<StrULE>,
+    C1: ZvContainer<StrULE>,
+    D: ZvContainer<SliceULE<u8>>,
+{
+    counted_from::<C0, C1, D, Brand>(map, language, script, Blank::new(1))
 }
 
 // Look-ups compare at most as often as the numbers of rows, 21, and of the row's pairs have digits.
@@ -186,9 +163,18 @@ fn are_few(rt: &impl Abort, found: Comparisons, scripts: usize) {
 }
 
 // The look-ups of each pair do.
-fn halve_their_keys<M: Counts>(rt: &impl Abort, map: &M, pairs: &[(&str, &str, usize)]) {
+fn halve_their_keys<C0, C1, D>(
+    rt: &impl Abort,
+    map: &Locales<'_, C0, C1, D>,
+    pairs: &[(&str, &str, usize)],
+)
+where
+    C0: ZvContainer<StrULE>,
+    C1: ZvContainer<StrULE>,
+    D: ZvContainer<SliceULE<u8>>,
+{
     for (language, script, scripts) in pairs {
-        are_few(rt, map.plain(language, script), *scripts);
+        are_few(rt, plain(map, language, script), *scripts);
         are_few(rt, counted(map, language, script), *scripts);
     }
 }
@@ -209,45 +195,4 @@ where
 #[test]
 fn look_ups_halve_their_keys(rt: HostRuntime) -> Result<(), Fail> {
     halves_its_keys::<Of<'_, StrULE>, Of<'_, StrULE>, Of<'_, SliceULE<u8>>>(&rt)
-}
-
-// ---- the languages by themselves
-
-// How many comparisons a counted search for a language among all 21 makes.
-fn in_languages_from<C: ZeroVecSearch<StrULE>, L: Ledger>(
-    languages: &C,
-    language: &str,
-    blank: Blank,
-) -> usize
-    requires name { blank.name ≡ L.name }
-    requires parts { blank.parts ≡ L.parts }
-    requires some { 0 < blank.parts }
-{
-    let count = Cell::new(0);
-    let key = CountingKey::new(language, &count);
-    let _ = languages.zvl_search_counted(&key, 0..21, &mut Steps::<L>::start(blank));
-    count.get()
-}
-
-// The same, with a counter that nobody reads.
-fn in_languages<C: ZeroVecSearch<StrULE>>(languages: &C, language: &str) -> usize {
-    in_languages_from::<C, Brand>(languages, language, Blank::new(1))
-}
-
-// A search for the language of each pair compares at most as often as 21 has digits.
-fn halve_the_languages<'a, C: MutableZeroVecLike<'a, StrULE>>(
-    rt: &impl Abort,
-    pairs: &[(&str, &str, usize)],
-) -> Result<(), Fail> {
-    let languages = C::zvl_parse(KEYS0)?;
-    assert!(rt; languages.zvl_len() == 21);
-    for (language, _, _) in pairs {
-        assert!(rt; is_between(in_languages(&languages, language), 5));
-    }
-    Ok(())
-}
-
-#[test]
-fn searches_halve_the_languages(rt: HostRuntime) -> Result<(), Fail> {
-    halve_the_languages::<Of<'_, StrULE>>(&rt, &PAIRS)
 }
