@@ -9,7 +9,7 @@ use std::sync::ledger::{Blank, Ledger};
 use std::test::Fail;
 use zv_counting::CountingKey;
 use zv_map::{MutableZeroVecLike, ZeroMapKV, ZvContainer};
-use zv_map2d::Map2dOver;
+use zv_map2d::{Map2dOver, ZeroMap2d};
 use zv_ule::{SliceULE, Steps, StrULE};
 
 const KEYS0: &[u8] = b"\
@@ -69,6 +69,8 @@ const PAIRS: [(&str, &str, usize); 28] = [
 
 type Locales<'a, C0, C1, D> = Map2dOver<'a, StrULE, StrULE, SliceULE<u8>, C0, C1, D>;
 
+type Table<'a> = ZeroMap2d<'a, StrULE, StrULE, SliceULE<u8>>;
+
 type Of<'a, K> = <K as ZeroMapKV<'a>>::Container;
 
 // The number of binary digits.
@@ -116,16 +118,12 @@ where
 }
 
 // How many comparisons the counted look-ups make.
-fn counted_from<C0, C1, D, L: Ledger>(
-    map: &Locales<'_, C0, C1, D>,
+fn counted_from<L: Ledger>(
+    map: &Table<'_>,
     language: &str,
     script: &str,
     blank: Blank,
 ) -> Comparisons
-where
-    C0: ZvContainer<StrULE>,
-    C1: ZvContainer<StrULE>,
-    D: ZvContainer<SliceULE<u8>>,
     requires name { blank.name ≡ L.name }
     requires parts { blank.parts ≡ L.parts }
     requires some { 0 < blank.parts }
@@ -145,13 +143,8 @@ where
 }
 
 // The same, with a counter that nobody reads.
-fn counted<C0, C1, D>(map: &Locales<'_, C0, C1, D>, language: &str, script: &str) -> Comparisons
-where
-    C0: ZvContainer<StrULE>,
-    C1: ZvContainer<StrULE>,
-    D: ZvContainer<SliceULE<u8>>,
-{
-    counted_from::<C0, C1, D, Brand>(map, language, script, Blank::new(1))
+fn counted(map: &Table<'_>, language: &str, script: &str) -> Comparisons {
+    counted_from::<Brand>(map, language, script, Blank::new(1))
 }
 
 // Look-ups compare at most as often as the numbers of rows, 21, and of the row's pairs have digits.
@@ -175,7 +168,6 @@ where
 {
     for (language, script, scripts) in pairs {
         are_few(rt, plain(map, language, script), *scripts);
-        are_few(rt, counted(map, language, script), *scripts);
     }
 }
 
@@ -195,4 +187,18 @@ where
 #[test]
 fn look_ups_halve_their_keys(rt: HostRuntime) -> Result<(), Fail> {
     halves_its_keys::<Of<'_, StrULE>, Of<'_, StrULE>, Of<'_, SliceULE<u8>>>(&rt)
+}
+
+// The counted look-ups of each pair do too.
+fn halve_counted(rt: &impl Abort, map: &Table<'_>, pairs: &[(&str, &str, usize)]) {
+    for (language, script, scripts) in pairs {
+        are_few(rt, counted(map, language, script), *scripts);
+    }
+}
+
+#[test]
+fn counted_look_ups_halve_their_keys(rt: HostRuntime) -> Result<(), Fail> {
+    let map = Table::parse_parts(KEYS0, JOINER, KEYS1, VALUES)?;
+    halve_counted(&rt, &map, &PAIRS);
+    Ok(())
 }
