@@ -1,16 +1,11 @@
-// How often look-ups in a map of 28 locales compare, counted by the keys themselves: the plain ones
-// and the counted ones.
-ghost use Rattle.std.specs.Prelude.{◌≡◌, ℕ, ◌<◌};
-
+// How often look-ups in a map of 28 locales compare, counted by the keys themselves.
 use std::cell::Cell;
-use std::marker::Brand;
 use std::process::Abort;
-use std::sync::ledger::{Blank, Ledger};
 use std::test::Fail;
 use zv_counting::CountingKey;
 use zv_map::{MutableZeroVecLike, ZeroMapKV, ZvContainer};
-use zv_map2d::{Map2dOver, ZeroMap2d};
-use zv_ule::{SliceULE, Steps, StrULE};
+use zv_map2d::Map2dOver;
+use zv_ule::{SliceULE, StrULE};
 
 const KEYS0: &[u8] = b"\
     \x15\x00\x03\x00\x05\x00\x07\x00\x09\x00\x0b\x00\x0e\x00\x10\x00\x12\x00\x14\x00\x17\
@@ -69,8 +64,6 @@ const PAIRS: [(&str, &str, usize); 28] = [
 
 type Locales<'a, C0, C1, D> = Map2dOver<'a, StrULE, StrULE, SliceULE<u8>, C0, C1, D>;
 
-type Table<'a> = ZeroMap2d<'a, StrULE, StrULE, SliceULE<u8>>;
-
 type Of<'a, K> = <K as ZeroMapKV<'a>>::Container;
 
 // The number of binary digits.
@@ -117,36 +110,6 @@ where
     }
 }
 
-// How many comparisons the counted look-ups make.
-fn counted_from<L: Ledger>(
-    map: &Table<'_>,
-    language: &str,
-    script: &str,
-    blank: Blank,
-) -> Comparisons
-    requires name { blank.name ≡ L.name }
-    requires parts { blank.parts ≡ L.parts }
-    requires some { 0 < blank.parts }
-{
-    let mut steps = Steps::<L>::start(blank);
-    let (in_map, of_row, in_row) = (Cell::new(0), Cell::new(0), Cell::new(0));
-    let key0 = CountingKey::new(language, &in_map);
-    let _ = map.get_2d_counted(&key0, &CountingKey::new(script, &in_map), &mut steps);
-    if let Some(row) = map.get0_counted(&CountingKey::new(language, &of_row), &mut steps) {
-        let _ = row.get1_counted(&CountingKey::new(script, &in_row), &mut steps);
-    }
-    Comparisons {
-        in_map: in_map.get(),
-        of_row: of_row.get(),
-        in_row: in_row.get(),
-    }
-}
-
-// The same, with a counter that nobody reads.
-fn counted(map: &Table<'_>, language: &str, script: &str) -> Comparisons {
-    counted_from::<Brand>(map, language, script, Blank::new(1))
-}
-
 // Look-ups compare at most as often as the numbers of rows, 21, and of the row's pairs have digits.
 fn are_few(rt: &impl Abort, found: Comparisons, scripts: usize) {
     let most = digits(scripts);
@@ -187,18 +150,4 @@ where
 #[test]
 fn look_ups_halve_their_keys(rt: HostRuntime) -> Result<(), Fail> {
     halves_its_keys::<Of<'_, StrULE>, Of<'_, StrULE>, Of<'_, SliceULE<u8>>>(&rt)
-}
-
-// The counted look-ups of each pair do too.
-fn halve_counted(rt: &impl Abort, map: &Table<'_>, pairs: &[(&str, &str, usize)]) {
-    for (language, script, scripts) in pairs {
-        are_few(rt, counted(map, language, script), *scripts);
-    }
-}
-
-#[test]
-fn counted_look_ups_halve_their_keys(rt: HostRuntime) -> Result<(), Fail> {
-    let map = Table::parse_parts(KEYS0, JOINER, KEYS1, VALUES)?;
-    halve_counted(&rt, &map, &PAIRS);
-    Ok(())
 }
