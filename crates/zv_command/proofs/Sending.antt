@@ -39,13 +39,17 @@ module _ {K : Type 0} {taken : K → Option (List ℕ)} {faults : K → ℕ} whe
       waits_then a.piece xs b.piece ys first.bytes.0 first.bytes.2 ∙ ap (λ (l : List ℕ). first.bytes.0 ++ l) second.bytes.2
           ∙ sym (append_assoc first.bytes.0 second.bytes.0 c.piece),
     );
-    cause = record { later = omega (arith, first.cause.later, second.cause.later); failed = tt };
+    cause = record { later = omega (arith, first.cause.later, second.cause.later); stays = second.cause.stays ∙ first.cause.stays; failed = tt };
   }
   sends_then {a = a} {b = b} {c = c} {s = Ok u} {r = Err e} {xs = xs} {ys = ys} first ok second = record {
     same = second.same ∙ first.same;
     bytes = prefix_after (taken a.sink.now) (taken b.sink.now) (taken c.sink.now) first.bytes.0 (b.piece ++ ys) (a.piece ++ (xs ++ ys))
         (waits_then a.piece xs b.piece ys first.bytes.0 first.bytes.2) first.bytes.1 second.bytes;
-    cause = record { later = omega (arith, first.cause.later, second.cause.later); failed = omega (arith, first.cause.later, second.cause.failed) };
+    cause = record {
+      later = omega (arith, first.cause.later, second.cause.later);
+      stays = tt;
+      failed = omega (arith, first.cause.later, second.cause.failed);
+    };
   }
   sends_then {s = Err e} first ok second = cc
 
@@ -72,7 +76,7 @@ module _ {K : Type 0} {taken : K → Option (List ℕ)} {faults : K → ℕ} whe
   sends_later {a = a} {b = b} {xs = xs} sink piece = record {
     same = ap (λ s. s.ghost_name) sink;
     bytes = ([], subst (λ s. Appends (taken a.sink.now) (taken s.now) []) (sym sink) (Appends-nil (taken a.sink.now)), sym piece);
-    cause = rw sink (record { later = omega arith; failed = tt });
+    cause = rw sink (record { later = omega arith; stays = refl; failed = tt });
   }
 
   pub sends_as : {a b : Output K} {r : Result Unit Failed} {xs ys : List ℕ} → ys ≡ xs → Sends taken faults a b r xs → Sends taken faults a b r ys

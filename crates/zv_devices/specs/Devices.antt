@@ -1,5 +1,6 @@
 -- What a read and a write do: when they may fail, and what a sink has taken then.
-use Rattle.std.specs.Prelude.{ℕ, ◌+◌, ◌-◌, ◌^◌, ◌≤◌, min, List, take, Result, OnErr, MatchResult}
+use Rattle.std.specs.Prelude.{ℕ, ◌≡◌, ◌+◌, ◌-◌, ◌^◌, ◌≤◌, min, List, take}
+use Rattle.std.specs.Prelude.{Result, OnErr, OnOk, MatchResult}
 use Rattle.std.specs.declared.option.Option.{Option}
 use Rattle.std.specs.Io.KnownBytes.{Appends}
 
@@ -7,9 +8,10 @@ use Rattle.std.specs.Io.KnownBytes.{Appends}
 abbrev pub Rose : ℕ → ℕ → Type 0
 Rose before now = min (before + 1) (2 ^ 64 - 1) ≤ now
 
--- The count has not fallen, and an error comes only where it rose.
+-- The count has not fallen; it rose where there is an error, and only there.
 pub record HasCause {T E : Type 0} (before now : ℕ) (result : Result T E) : Type 0 where
   pub later : before ≤ now
+  pub stays : OnOk result (now ≡ before)
   pub failed : OnErr result (Rose before now)
 
 -- Known bytes grow by the first of these bytes, however many.

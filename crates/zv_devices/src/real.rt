@@ -1,12 +1,19 @@
 // Devices over std's readers and writers.
-ghost use Rattle.std.specs.Prelude.{◌≡◌, OnOk};
-ghost use Rattle.std.specs.Io.KnownBytes.{Appends};
-ghost use Rattle.zv_devices.specs.Devices.{AppendsPrefix, Takes};
+ghost use Rattle.std.specs.Prelude.{◌≡◌, ◌≢◌, IfErr};
+ghost use Rattle.std.specs.Io.{ReadsAtMost, WritesAtMost};
+ghost use Rattle.std.specs.Io.KnownBytes.{ReadConsumes, WriteAppends};
+ghost use Rattle.std.specs.IoError.{error_kind};
+ghost use Rattle.std.specs.declared.io.ErrorKind.{ErrorKind};
+ghost use Rattle.zv_devices.specs.Devices.{Takes};
 
 use crate::device::{Failed, Sink, Source};
-use std::io::{Read, Write};
+use std::io::{self, ErrorKind, Read, Write};
 
-/// A source over a reader of std. A read fails where the reader's does.
+/// How often a call is made that a signal interrupts.
+const MOST_TRIES: u64 = u64::MAX;
+
+/// A source over a reader of std. A read fails where the reader's does; one that a signal
+/// interrupts is made again.
 ///
 /// It tells the bytes that are left where the reader tells them; a file, a pipe and a terminal tell
 /// none.
@@ -32,7 +39,7 @@ impl<R: Read> Source for StdSource<R> {
     ghost faults = { λ s. s.faults };
 
     fn read(&mut self, buf: &mut [u8]) -> Result<usize, Failed> {
-        match self.reader.read(buf) {
+        match read_retrying(&mut self.reader, buf) {
             Ok(count) => Ok(count),
             Err(_) => {
                 self.faults = self.faults.saturating_add(1);
@@ -42,8 +49,24 @@ impl<R: Read> Source for StdSource<R> {
     }
 }
 
-/// A sink over a writer of std. A write hands the whole piece over and flushes; it fails where the
-/// writer does, and where the writer takes nothing of a piece that isn't empty.
+// One read, made again where a signal interrupts it.
+fn read_retrying<R: Read>(reader: &mut R, buf: &mut [u8]) -> io::Result<usize>
+    ensures bound { ReadsAtMost result buf.new }
+    ensures bytes { ReadConsumes (R.remaining reader.old) (R.remaining reader.new) result buf.new }
+    ensures retried { IfErr result (λ e. error_kind e ≢ ErrorKind.Interrupted) }
+{
+    for _ in 0..MOST_TRIES {
+        match reader.read(buf) {
+            Err(error) if error.kind() == ErrorKind::Interrupted => {}
+            result => return result,
+        }
+    }
+    Err(io::Error::from(ErrorKind::TimedOut))
+}
+
+/// A sink over a writer of std. A write hands the whole piece over and flushes, an empty one too;
+/// it fails where the writer does, and where the writer takes nothing of a piece that isn't empty.
+/// What a signal interrupts is written again.
 ///
 /// It tells the bytes that were taken where the writer tells them; a file, a pipe and a terminal
 /// tell none.
@@ -79,13 +102,28 @@ impl<W: Write> Sink for StdSink<W> {
     }
 }
 
+// One write, made again where a signal interrupts it.
+fn write_retrying<W: Write>(writer: &mut W, piece: &[u8]) -> io::Result<usize>
+    ensures bound { WritesAtMost result piece.now }
+    ensures bytes { WriteAppends (W.contents writer.old) (W.contents writer.new) result piece.now }
+    ensures retried { IfErr result (λ e. error_kind e ≢ ErrorKind.Interrupted) }
+{
+    for _ in 0..MOST_TRIES {
+        match writer.write(piece) {
+            Err(error) if error.kind() == ErrorKind::Interrupted => {}
+            result => return result,
+        }
+    }
+    Err(io::Error::from(ErrorKind::TimedOut))
+}
+
 // Writes the whole piece and flushes. A writer that takes nothing has failed.
 fn write_whole<W: Write>(writer: &mut W, piece: &[u8]) -> Result<(), Failed>
     ensures { Takes (W.contents writer.old) (W.contents writer.new) result piece.now }
 {
     let mut at = 0;
     while at < piece.len() {
-        match writer.write(&piece[at..]) {
+        match write_retrying(writer, &piece[at..]) {
             Ok(0) => return Err(Failed),
             Ok(count) => at += count,
             Err(_) => return Err(Failed),

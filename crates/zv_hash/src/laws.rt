@@ -1,6 +1,6 @@
 // What the definitions say of worked lists.
 ghost use Rattle.std.specs.Prelude.{◌≡◌, ℕ, List};
-ghost use Rattle.zv_hash.specs.Placement.{Chosen, IsStuck};
+ghost use Rattle.zv_hash.specs.Placement.{Chosen, IsStuck, Placed};
 ghost use Rattle.zv_hash.specs.Rows.{EqualHashes, HigherFirst, IndexOfNone, IndexOfParts};
 ghost use Rattle.zv_hash.specs.Rows.{IndexWraps, KeyHashes, LargerFirst, OneBucket, OneHash};
 ghost use Rattle.zv_hash.specs.Rows.{SameSlot, SplitInThree, TenKeys, ThreeKeys};
@@ -34,4 +34,12 @@ pub fn worked_placements()
 pub fn stuck_bucket()
     ensures none { (hs : List ℕ) (ds : List (ℕ × ℕ)) (g : ℕ) → Chosen hs ds → IsStuck hs g → ⊥ }
     ensures one { (hs : List ℕ) (g h : ℕ) → IsStuck hs g → IsStuck hs h → g ≡ h }
+{}
+
+/// Hashes determine their placement: the displacements, and which hash is in which slot.
+pub fn one_placement()
+    ensures displacements { (hs : List ℕ) (ds es : List (ℕ × ℕ))
+        → Chosen hs ds → Chosen hs es → ds ≡ es }
+    ensures places { (hs : List ℕ) (ds : List (ℕ × ℕ)) (ps qs : List ℕ)
+        → Chosen hs ds → Placed hs ds ps → Placed hs ds qs → ps ≡ qs }
 {}

@@ -1,6 +1,6 @@
 // A command and its fields.
 ghost use Rattle.std.specs.Prelude.{◌≡◌, ◌-◌, ◌^◌, min};
-ghost use Rattle.zv_input.specs.Commands.{command_size};
+ghost use Rattle.zv_input.specs.Commands.{OfTexts, command_size};
 
 use crate::compact::{BYTES, CompactBytes, TEXT};
 
@@ -39,8 +39,10 @@ pub enum Command {
 const _: () = prove!(size_of::<Command>() == 56);
 
 /// 1 and the lengths of a command's fields, which stops at the last value of a `usize`.
+#[tactic(auto, using(crate::proofs::Texts::text_tests))]
 pub(crate) fn command_size(command: &Command) -> usize
-    ensures { result ≡ min (command_size command.now) (2 ^ 64 - 1) }
+    ensures size { result ≡ min (command_size command.now) (2 ^ 64 - 1) }
+    ensures texts { OfTexts command.now }
 {
     let fields = match command {
         Command::Get { key0, key1 } | Command::Del { key0, key1 } => {

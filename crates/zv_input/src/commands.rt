@@ -41,8 +41,9 @@ pub struct Commands {
 
 impl Model for Commands {
     ghost use Rattle.std.specs.Prelude.{List, ◌≡◌, ◌≤◌};
+    ghost use Rattle.std.specs.List.{AllByRecursion};
     ghost use Rattle.zv_input.specs.declared.command.Command.{Command};
-    ghost use Rattle.zv_input.specs.Commands.{total_size};
+    ghost use Rattle.zv_input.specs.Commands.{OfTexts, total_size};
     ghost use Rattle.zv_input.specs.Sizes.{put_sizes};
 
     ghost Value = { List Command };
@@ -50,14 +51,15 @@ impl Model for Commands {
     ghost view = { λ c. c.commands.items };
 
     ghost invariant = { λ c. (c.size ≡ total_size c.commands.items) × (c.size ≤ 16777216)
-        × (c.puts ≡ put_sizes c.commands.items) };
+        × (c.puts ≡ put_sizes c.commands.items) × AllByRecursion OfTexts c.commands.items };
 }
 
 impl Commands {
     ghost use Rattle.std.specs.Prelude.{◌≡◌, ◌+◌, ◌<◌, ◌≤◌, ◌↔◌, [], ◌∷◌, ◌++◌, length, slice_get};
     ghost use Rattle.std.specs.Prelude.{IsTrue, OnOk, OnErr, IsErrOf};
+    ghost use Rattle.std.specs.List.{AllByRecursion};
     ghost use Rattle.std.specs.Option.{option_copied};
-    ghost use Rattle.zv_input.specs.Commands.{total_size, command_size};
+    ghost use Rattle.zv_input.specs.Commands.{OfTexts, total_size, command_size};
     ghost use Rattle.zv_input.specs.Sizes.{put_sizes, total_of};
 
     /// No commands. It takes no memory yet.
@@ -112,9 +114,10 @@ impl Commands {
         self.commands.get(i)
     }
 
-    /// All of them.
+    /// All of them. Their keys are texts.
     pub fn as_slice(&self) -> &[Command]
-        ensures { result.now ≡ self.now }
+        ensures commands { result.now ≡ self.now }
+        ensures texts { AllByRecursion OfTexts self.now }
     {
         &self.commands
     }

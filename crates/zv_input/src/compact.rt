@@ -190,7 +190,8 @@ impl<const KIND: u8> CompactBytes<KIND> {
 
     // How many bytes there are.
     pub(crate) fn len(&self) -> usize
-        ensures { result ≡ length self.now }
+        ensures count { result ≡ length self.now }
+        ensures content { IsTrue (is_of_kind KIND self.now) }
     {
         self.as_slice().len()
     }

@@ -123,15 +123,76 @@ impl Write for Slow {
 }
 
 #[test]
-fn a_short_write_goes_on_and_is_flushed(rt: HostRuntime) -> Result<(), Fail> {
+fn each_piece_is_written_whole_and_flushed(rt: HostRuntime) -> Result<(), Fail> {
     let mut slow = Slow {
         taken: Vec::new(rt.alloc()),
         flushes: 0,
     };
     let mut sink = StdSink::new(&mut slow);
     assert!(rt; sink.write(b"abcde") == Ok(()));
+    assert!(rt; sink.write(b"") == Ok(()));
     assert!(rt; slow.taken.as_slice() == b"abcde".as_slice());
-    assert!(rt; slow.flushes == 1);
+    assert!(rt; slow.flushes == 2);
+    Ok(())
+}
+
+// A reader and a writer of which a signal interrupts every other call.
+#[derive(Drop)]
+struct Interrupted<D> {
+    device: D,
+    is_next: bool,
+}
+
+impl<D> Interrupted<D> {
+    // Whether this call is one that is interrupted.
+    fn turn(&mut self) -> io::Result<()> {
+        self.is_next = !self.is_next;
+        if self.is_next {
+            return Ok(());
+        }
+        Err(io::Error::from(io::ErrorKind::Interrupted))
+    }
+}
+
+impl<D: Read> Read for Interrupted<D> {
+    fn read(&mut self, buf: &mut [u8]) -> io::Result<usize> {
+        self.turn()?;
+        let count = buf.len().min(7);
+        self.device.read(&mut buf[..count])
+    }
+}
+
+impl<D: Write> Write for Interrupted<D> {
+    fn write(&mut self, buf: &[u8]) -> io::Result<usize> {
+        self.turn()?;
+        self.device.write(buf)
+    }
+
+    fn flush(&mut self) -> io::Result<()> {
+        self.device.flush()
+    }
+}
+
+#[test]
+fn what_a_signal_interrupts_is_done_again(rt: HostRuntime) -> Result<(), Fail> {
+    let alloc = rt.alloc();
+    let words = words_of(alloc, &["edit"])?;
+    let input = join(alloc, &["x", EMPTY, "\nget x61 x62\n"])?;
+    let mut source = StdSource::new(Interrupted {
+        device: input.as_slice(),
+        is_next: true,
+    });
+    let mut slow = Slow {
+        taken: Vec::new(alloc),
+        flushes: 0,
+    };
+    let mut sink = StdSink::new(Interrupted {
+        device: &mut slow,
+        is_next: true,
+    });
+    assert!(rt; run(alloc, &words, &mut source, &mut sink) == Status::Done);
+    let answer = join(alloc, &["none\nimage x", EMPTY, "\n"])?;
+    assert!(rt; slow.taken == answer);
     Ok(())
 }
 
