@@ -1,7 +1,6 @@
 -- What is told of an input.
-use Rattle.zv_command.proofs.Common.{◌≡◌, ◌∙◌, ◌⊎◌, ℕ, ◌≤◌, List, length, refl, ap, inl, inr, Some, None, Ok, Err, IfSome, IsTrue, Option, Result}
-use Rattle.zv_command.proofs.Common.{MAX_INPUT, Status, BadLine, Memory, WriteFault, CutShort, Rose, Written, Due, Sent, Tells, is_answer, due_or}
-use Rattle.zv_command.specs.Due.{bad_line_due}
+use Rattle.zv_command.proofs.Common.{◌≡◌, ◌∙◌, ◌⊎◌, ℕ, ◌≤◌, List, length, ap, inl, inr, Some, None, IfSome, IsTrue, Option, Result}
+use Rattle.zv_command.proofs.Common.{MAX_INPUT, Status, WriteFault, CutShort, Rose, Written, Due, Sent, Tells, is_answer, due_or}
 use Rattle.zv_command.specs.Runs.{IsWantedStatus, IsWantedUnless, Wanted, WantedText, of_input}
 
 -- ---- texts that are sent

@@ -4,7 +4,7 @@ use Rattle.std.specs.Prelude.{IfSome, IsFalse, IsTrue}
 use Rattle.std.specs.declared.option.Option.{Option}
 use Rattle.std.specs.Io.KnownBytes.{IsAtEnd}
 use Rattle.zv_devices.specs.Devices.{CutShort, Rose, Written}
-use Rattle.zv_command.specs.Due.{Due, is_answer, is_silent, is_written}
+use Rattle.zv_command.specs.Due.{Due, is_answer, is_silent}
 use Rattle.zv_command.specs.declared.reader.TheConstants.{MAX_INPUT}
 use Rattle.zv_command.specs.declared.status.Status.{Status}
 use Rattle.zv_command.specs.declared.status.Status.TheVariants.{Memory, ReadFault, TooLong}

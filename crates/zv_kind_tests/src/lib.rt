@@ -4,6 +4,8 @@
 #[cfg(test)]
 mod boxes;
 #[cfg(test)]
+mod containers;
+#[cfg(test)]
 mod elements;
 #[cfg(test)]
 mod impls;
