@@ -1,21 +1,16 @@
 // The places where a search can still end.
-ghost use Rattle.std.specs.Prelude.{◌≡◌, ℕ, ◌+◌, ◌*◌, ◌/◌, ◌^◌, ◌<◌, ◌≤◌, if◌then◌else◌};
+ghost use Rattle.std.specs.Prelude.{◌≡◌, ◌+◌, ◌*◌, ◌/◌, ◌^◌, ◌<◌, ◌≤◌};
 ghost use Rattle.std.specs.declared.cmp.Ordering.TheVariants.{Less, Greater};
 
 use std::cmp::Ordering;
+use std::hint::select_unpredictable;
 
-/// How many places an answer passes by: so many, or none.
-#[inline(always)]
-fn passed(is_above: bool, count: usize) -> usize
-    ensures { result ≡ (if is_above then count else 0) }
-{
-    is_above as usize * count
-}
-
-/// The places where a search can still end: so many, from the lowest on.
+/// The places where a search can still end, one after another.
 #[derive(Clone, Copy)]
 pub struct Window {
+    /// The lowest place.
     pub low: usize,
+    /// How many places.
     pub size: usize,
 }
 
@@ -54,7 +49,7 @@ impl Window {
     {
         let is_above = answer.is_lt();
         Window {
-            low: self.low + passed(is_above, self.size / 2 + 1),
+            low: select_unpredictable(is_above, self.middle() + 1, self.low),
             size: (self.size - is_above as usize) / 2,
         }
     }
