@@ -1,27 +1,15 @@
 // The laws of containers, each the contract of a function that does nothing.
-ghost use Rattle.std.specs.Prelude.{◌≡◌, ℕ, List, [], Err, IsTrue, true};
+ghost use Rattle.std.specs.Prelude.{◌≡◌, ℕ, List, [], IsTrue, true};
 ghost use Rattle.std.specs.List.{AllByRecursion};
 ghost use Rattle.zv_ule.specs.Bytes.{IsBytes};
-ghost use Rattle.zv_ule.specs.Search.{Found, IsGap, Rises, compared};
-ghost use Rattle.zv_map.specs.Keys.{IsElementOf, ascends};
+ghost use Rattle.zv_map.specs.Keys.{IsElementOf};
 ghost use Rattle.zv_map.specs.Layouts.{list_in, spells_in, written};
 ghost use Rattle.zv_map.specs.Views.{list_of};
 ghost use Rattle.zv_map.specs.declared.view.Layout.{Layout};
 
 use crate::vecs::ZvContainer;
 use crate::view::{KvSlice, Layout};
-use zv_ule::{ZvKind, ZvOrd};
-
-/// Searches in lists that ascend are exact:
-///
-/// - `rises`: along the list, the elements compare with a key as less, then equal, then greater;
-/// - `gap`: so the place that a search gives as `Err` parts the smaller from the greater.
-pub fn ascending_lists_rise<K: ZvOrd>()
-    ensures rises { (xs : List (List ℕ)) (key : List ℕ) → ascends K.cmp xs ≡ true →
-        Rises (compared K.cmp xs key) }
-    ensures gap { (xs : List (List ℕ)) (key : List ℕ) (i : ℕ) → ascends K.cmp xs ≡ true →
-        Found (compared K.cmp xs key) (Err i) → IsGap (compared K.cmp xs key) i }
-{}
+use zv_ule::ZvKind;
 
 /// What lists in a layout are of and are written as, and what a container's layout is:
 ///

@@ -1,5 +1,6 @@
 // The laws of elements, each the contract of a function that does nothing.
-ghost use Rattle.std.specs.Prelude.{◌≡◌, ℕ, ◌%◌, ◌<◌, ◌↔◌, List, length, Some, None, IsTrue};
+ghost use Rattle.std.specs.Prelude.{◌≡◌, ℕ, ◌%◌, ◌<◌, ◌↔◌, true, List, length, Some, None};
+ghost use Rattle.std.specs.Prelude.{Err, IsTrue};
 ghost use Rattle.std.specs.Cmp.{IsTotalOrder};
 ghost use Rattle.std.specs.Ordering.{on};
 ghost use Rattle.std.specs.declared.cmp.Ordering.TheVariants.{Equal};
@@ -10,6 +11,7 @@ ghost use Rattle.zv_ule.specs.Examples.{MinusTwo, NicheIsTaken, PastLastIsRefuse
 ghost use Rattle.zv_ule.specs.Examples.{SixByFour, SurrogateIsRefused, TagError, TurnedPairs};
 ghost use Rattle.zv_ule.specs.Fixed.{is_width, IsChunk, IsListOf};
 ghost use Rattle.zv_ule.specs.Kinds.{EqualIsSame};
+ghost use Rattle.zv_ule.specs.Search.{ascends, compared, Found, IsGap, Rises, RisesByPlace};
 ghost use Rattle.zv_ule.specs.SearchExamples.{FourStepsInFive, IsGapBeforeTwo, IsGapOfTwo};
 ghost use Rattle.zv_ule.specs.SearchExamples.{NoStepInNone, OneStepInNone, ThreeStepsInFive};
 ghost use Rattle.zv_ule.specs.declared.error.UleError.{UleError};
@@ -82,6 +84,19 @@ pub fn stored_lists<U: ULE>()
 /// The order of every kind is total.
 pub fn total_order<K: ZvOrd>()
     ensures { IsTotalOrder K.cmp }
+{}
+
+/// Lists that ascend, by the order of their kind:
+///
+/// - `places`: each element is below every later one;
+/// - `rises`: along the list, the elements compare with a key as less, then equal, then greater;
+/// - `gap`: so the place that a search gives as `Err` parts the smaller from the greater.
+pub fn ascending_lists_rise<K: ZvOrd>()
+    ensures places { (xs : List (List ℕ)) → ascends K.cmp xs ≡ true → RisesByPlace K.cmp xs }
+    ensures rises { (xs : List (List ℕ)) (key : List ℕ) → ascends K.cmp xs ≡ true →
+        Rises (compared K.cmp xs key) }
+    ensures gap { (xs : List (List ℕ)) (key : List ℕ) (i : ℕ) → ascends K.cmp xs ≡ true →
+        Found (compared K.cmp xs key) (Err i) → IsGap (compared K.cmp xs key) i }
 {}
 
 /// Values that are equal make the same writes to a hasher, and so have equal hashes.

@@ -9,7 +9,7 @@ ghost use Rattle.zv_ule.specs.Search.{Found, compared};
 
 use crate::slice::ZeroSlice;
 use std::cmp::Ordering;
-use zv_ule::search::{IndexedList, search};
+use zv_ule::search::{IndexedList, Window, search};
 use zv_ule::{AsULE, VarRef, ZvOrd, ZvOrdArg, chunk_at};
 
 impl<T: AsULE> IndexedList<T> for ZeroSlice<'_, T> {
@@ -61,16 +61,15 @@ impl<'a, T: AsULE> ZeroSlice<'a, T> {
         ensures found { (answer : T → Ordering) → Computes P.FnMut answer predicate →
             Found (map answer (values_in self.entry)) result }
     {
-        let mut low = 0;
-        let mut high = self.len();
-        while low < high {
-            let middle = low + (high - low) / 2;
-            match predicate(self.at(middle)) {
-                Ordering::Less => low = middle + 1,
-                Ordering::Equal => return Ok(middle),
-                Ordering::Greater => high = middle,
+        let mut window = Window::whole(self.len());
+        while window.size > 0 {
+            let middle = window.middle();
+            let answer = predicate(self.at(middle));
+            if answer.is_eq() {
+                return Ok(middle);
             }
+            window = window.left_by(answer);
         }
-        Err(low)
+        Err(window.low)
     }
 }

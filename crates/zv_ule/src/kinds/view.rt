@@ -36,12 +36,14 @@ impl<T: ZvKind> Clone for VarRef<'_, T> {
 impl<T: ZvKind> Copy for VarRef<'_, T> {}
 
 impl<'b, T: ZvKind> VarRef<'b, T> {
+    ghost use Rattle.zv_ule.specs.Views.{element_of};
+
     /// Checks that the bytes are an element, by `check` of the kind, and views them.
     #[inline]
     pub fn new(bytes: &'b [u8]) -> Result<Self, UleError>
         requires { IsTrue T.usable }
         ensures error { result_err result ≡ T.fault bytes.now }
-        ensures bytes { IfOk result (λ v. v.bytes.now ≡ bytes.now) }
+        ensures bytes { IfOk result (λ v. element_of v ≡ bytes.now) }
     {
         T::check(bytes)?;
         Ok(VarRef {
@@ -55,7 +57,7 @@ impl<'b, T: ZvKind> VarRef<'b, T> {
     pub fn of_valid(bytes: &'b [u8]) -> Self
         requires usable { IsTrue T.usable }
         requires spells { T.fault bytes.now ≡ None }
-        ensures { result.bytes.now ≡ bytes.now }
+        ensures { element_of result ≡ bytes.now }
     {
         VarRef {
             bytes,
@@ -66,7 +68,7 @@ impl<'b, T: ZvKind> VarRef<'b, T> {
     /// The element's bytes.
     #[inline]
     pub fn as_bytes(self) -> &'b [u8]
-        ensures same { result.now ≡ self.entry.bytes.now }
+        ensures same { result.now ≡ element_of self.entry }
         ensures spells { T.fault result.now ≡ None }
     {
         self.bytes
@@ -74,10 +76,12 @@ impl<'b, T: ZvKind> VarRef<'b, T> {
 }
 
 impl<T: ZvOrd> VarRef<'_, T> {
+    ghost use Rattle.zv_ule.specs.Views.{element_of};
+
     /// How two elements compare.
     #[inline]
     pub fn order(self, other: VarRef<'_, T>) -> Ordering
-        ensures { result ≡ T.cmp self.entry.bytes.now other.entry.bytes.now }
+        ensures { result ≡ T.cmp (element_of self.entry) (element_of other.entry) }
     {
         order::<T>(self.as_bytes(), other.as_bytes())
     }
@@ -86,19 +90,21 @@ impl<T: ZvOrd> VarRef<'_, T> {
     /// the same bytes.
     #[inline]
     pub fn same(self, other: VarRef<'_, T>) -> bool
-        ensures { IsTrue result ↔ (T.cmp self.entry.bytes.now other.entry.bytes.now ≡ Equal) }
+        ensures { IsTrue result ↔ (T.cmp (element_of self.entry) (element_of other.entry) ≡ Equal) }
     {
         self.order(other).is_eq()
     }
 }
 
 impl<T: AsULE> VarRef<'_, T> {
+    ghost use Rattle.zv_ule.specs.Views.{element_of};
+
     /// Reads the value of an element of fixed width.
     #[inline]
     pub fn value(self) -> T
-        ensures read { result ≡ T.loaded (T.ULE.value self.entry.bytes.now) }
+        ensures read { result ≡ T.loaded (T.ULE.value (element_of self.entry)) }
         ensures valid { T.is_value result }
-        ensures spelled { T.ULE.chunk (T.stored result) ≡ self.entry.bytes.now }
+        ensures spelled { T.ULE.chunk (T.stored result) ≡ element_of self.entry }
     {
         load::<T>(self.as_bytes())
     }
@@ -106,10 +112,12 @@ impl<T: AsULE> VarRef<'_, T> {
 
 #[tactic(auto, using(crate::proofs::Texts::text_good, crate::proofs::Texts::text_is))]
 impl<'b> VarRef<'b, StrULE> {
+    ghost use Rattle.zv_ule.specs.Views.{element_of};
+
     /// Views a text. It checks nothing, as a `str` is UTF-8.
     #[inline]
     pub fn of_str(text: &'b str) -> VarRef<'b, StrULE>
-        ensures { result.bytes.now ≡ text.now }
+        ensures { element_of result ≡ text.now }
     {
         VarRef {
             bytes: text.as_bytes(),
@@ -120,18 +128,20 @@ impl<'b> VarRef<'b, StrULE> {
     /// The text itself, with no copy and no check.
     #[inline]
     pub fn as_str(self) -> &'b str
-        ensures { result.now ≡ self.entry.bytes.now }
+        ensures { result.now ≡ element_of self.entry }
     {
         unsafe { str::from_utf8_unchecked(self.as_bytes()) }
     }
 }
 
 impl<'b> VarRef<'b, SliceULE<u8>> {
+    ghost use Rattle.zv_ule.specs.Views.{element_of};
+
     /// Views a byte string. It checks nothing, as every byte string is a slice of bytes.
     #[inline]
     #[tactic(auto, using(crate::proofs::ChunkFaults::plain_bytes))]
     pub fn of_bytes(bytes: &'b [u8]) -> VarRef<'b, SliceULE<u8>>
-        ensures { result.bytes.now ≡ bytes.now }
+        ensures { element_of result ≡ bytes.now }
     {
         VarRef {
             bytes,

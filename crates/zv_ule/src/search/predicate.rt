@@ -7,11 +7,11 @@ ghost use Rattle.std.specs.declared.cmp.Ordering.{Ordering};
 ghost use Rattle.zv_ule.specs.Search.{AnsweredEqual, Found, FoundIn, IsOutside};
 
 use crate::kind::ZvKind;
-use crate::search::IndexedList;
+use crate::search::{IndexedList, Window};
 use std::cmp::Ordering;
 use std::ops::Range;
 
-/// Searches a range that lies in the list. Each turn asks once, and halves what is left.
+/// Searches a range that lies in the list. Each turn asks once, and leaves half of the places.
 #[inline]
 fn halve_by<T: ZvKind, C: IndexedList<T>, P: FnMut(&[u8]) -> Ordering>(
     list: &C,
@@ -27,19 +27,17 @@ fn halve_by<T: ZvKind, C: IndexedList<T>, P: FnMut(&[u8]) -> Ordering>(
     ensures found { (answer : List ℕ → Ordering) → ComputesKey P.FnMut answer predicate →
         FoundIn (map answer (C.list list.now)) range result }
 {
-    let start = range.start;
-    let mut low = start;
-    let mut high = range.end;
-    while low < high {
-        let middle = low + (high - low) / 2;
-        let element = list.element_at(middle);
-        match predicate(element.as_bytes()) {
-            Ordering::Less => low = middle + 1,
-            Ordering::Equal => return Ok(middle - start),
-            Ordering::Greater => high = middle,
+    let mut window = Window::whole(range.end - range.start);
+    while window.size > 0 {
+        let middle = window.middle();
+        let element = list.element_at(range.start + middle);
+        let answer = predicate(element.as_bytes());
+        if answer.is_eq() {
+            return Ok(middle);
         }
+        window = window.left_by(answer);
     }
-    Err(low - start)
+    Err(window.low)
 }
 
 /// Searches a range of places by a predicate, which says how an element lies to what is sought:
