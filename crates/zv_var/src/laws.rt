@@ -1,7 +1,8 @@
 // What the format means: worked examples, and laws. Each call does nothing, and its contract is
 // what it is for.
-ghost use Rattle.zv_var.specs.Laws.{FramedIsTaken, NamesLeast, NoneWrong, OneEncoding, OneList};
-ghost use Rattle.zv_var.specs.Laws.{ReadsBack, SoundExactly, WrittenStands};
+ghost use Rattle.zv_var.specs.Laws.{FramedIsTaken, LengthlessIsSound, LengthlessReadsBack};
+ghost use Rattle.zv_var.specs.Laws.{NamesLeast, NoneWrong, OneEncoding, OneList, ReadsBack};
+ghost use Rattle.zv_var.specs.Laws.{ShortHasStarts, SoundExactly, WrittenStands};
 ghost use Rattle.zv_var.specs.Examples.{CountOfZeroIsEmpty, CountOfZeroIsSound, CutCountIsRefused};
 ghost use Rattle.zv_var.specs.Examples.{CutLengthIsNoPart, CutPartIsNoPart, CutStartsAreRefused};
 ghost use Rattle.zv_var.specs.Examples.{EarlierFaultIsNamed, FallingStartIsRefused};
@@ -55,6 +56,13 @@ pub fn one_reading()
     ensures written_stands { WrittenStands }
     ensures none_wrong { NoneWrong }
     ensures names_least { NamesLeast }
+{}
+
+/// A list that is written without its count is read again by its length.
+pub fn lengthless_reading()
+    ensures short_has_starts { ShortHasStarts }
+    ensures reads_back { LengthlessReadsBack }
+    ensures sound { LengthlessIsSound }
 {}
 
 /// Parts that were framed are taken again, one after another.
