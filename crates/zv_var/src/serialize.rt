@@ -6,7 +6,8 @@ ghost use Rattle.std.specs.Prelude.{is_some, OnOk};
 ghost use Rattle.std.specs.List.{concat, flat_map, list_all};
 ghost use Rattle.std.specs.Option.{option_map};
 ghost use Rattle.zv_ule.specs.Bytes.{le};
-ghost use Rattle.zv_var.specs.Format.{codable, elements_after, enc, fault_after, list_fault, starts};
+ghost use Rattle.zv_var.specs.Format.{codable, elements_after, enc, fault_after, list_fault};
+ghost use Rattle.zv_var.specs.Format.{starts};
 ghost use Rattle.zv_var.specs.Laws.{AreValid};
 ghost use Rattle.zv_var.specs.Serialize.{lengthless, lengthless_len, serialized, serialized_len};
 
