@@ -1,6 +1,6 @@
 -- Lists that compare Equal are the same, where elements that do are.
-use Rattle.zv_var.proofs.Common.{◌≡◌, ℕ, ◌+◌, ◌<◌, ◌≤◌, List, [], ◌∷◌, ◌++◌, length, arith, length-append, take_at, drop_at, refl, Option, None, flat_map, concat}
-use Rattle.zv_var.proofs.Common.{AllByRecursion, le, UleError, Part, AreValid, elements, list_fault, starts}
+use Rattle.zv_var.proofs.Common.{◌≡◌, ℕ, ◌+◌, ◌<◌, ◌≤◌, List, [], ◌∷◌, ◌++◌, length, arith, length-append, take_at, drop_at, refl, Option, None}
+use Rattle.zv_var.proofs.Common.{flat_map, concat, AllByRecursion, le, UleError, Part, AreValid, elements, list_fault, starts}
 use Rattle.std.specs.Cmp.{IsTotalOrder}
 use Rattle.std.specs.Cmp.Lexicographic.{slice_cmp}
 use Rattle.std.specs.declared.cmp.Ordering.{Ordering}
@@ -31,13 +31,15 @@ concat_bytes w b (x ∷ xs) h p =
 
 read_elements : (w : ℕ) (K : List ℕ → Option UleError) (b : List ℕ) → 0 < w → IsBytes b → list_fault w K b ≡ None →
     AllByRecursion (λ x. IsBytes x × (K x ≡ None)) (elements w b)
-read_elements w K b some h f = are_elements K (elements w b) (concat_bytes w b (elements w b) h (Part_from_fault w K b some h f)) (valid_from_fault w K b some h f)
+read_elements w K b some h f =
+    are_elements K (elements w b) (concat_bytes w b (elements w b) h (Part_from_fault w K b some h f)) (valid_from_fault w K b some h f)
 
 -- Lists without a fault compare Equal exactly where their elements are the same.
 pub equal_lists : (w : ℕ) (K : List ℕ → Option UleError) (cmp : List ℕ → List ℕ → Ordering) (a b : List ℕ) → 0 < w → IsTotalOrder cmp → EqualIsSame K cmp →
     IsBytes a → IsBytes b → list_fault w K a ≡ None → list_fault w K b ≡ None →
     (slice_cmp cmp (elements w a) (elements w b) ≡ Equal) ↔ (elements w a ≡ elements w b)
 equal_lists w K cmp a b some total same bytes_a bytes_b good_a good_b = (
-  same_lists (λ x y p q e. same x y p.0 q.0 p.1 q.1 e) (elements w a) (elements w b) (read_elements w K a some bytes_a good_a) (read_elements w K b some bytes_b good_b),
+  same_lists (λ x y p q e. same x y p.0 q.0 p.1 q.1 e) (elements w a) (elements w b) (read_elements w K a some bytes_a good_a)
+      (read_elements w K b some bytes_b good_b),
   λ e. rw e (tied_itself (lists_total total) (elements w b)),
 )

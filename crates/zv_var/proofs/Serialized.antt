@@ -1,6 +1,7 @@
 -- What values are written as, one after another.
 use Rattle.zv_var.proofs.Common.{◌≡◌, ℕ, zero, suc, ◌+◌, ◌-◌, ◌*◌, ◌^◌, ◌<◌, ◌≤◌, Bool, true, List, [], ◌∷◌, ◌++◌, length, take, get_or, map, refl, ap}
-use Rattle.zv_var.proofs.Common.{◌∙◌, sym, arith, length-append, Option, Some, None, inr, is_some, take_at, flat_map, concat, list_all, le, length-le, UleError, Part}
+use Rattle.zv_var.proofs.Common.{◌∙◌, sym, arith, length-append, Option, Some, None, inr, is_some}
+use Rattle.zv_var.proofs.Common.{take_at, flat_map, concat, list_all, le, length-le, UleError, Part}
 use Rattle.zv_var.proofs.Common.{codable, elements_after, fault_after, fits, list_fault, starts, starts_from, AreValid, suc-mul}
 use Rattle.std.proofs.Common.{add-one, IfSome}
 use Rattle.std.proofs.Math.Nat.{le-mul_of_pos_right}
