@@ -57,7 +57,8 @@ impl<'a> CowBytes<'a> {
     /// How many more bytes fit without memory.
     #[inline]
     pub fn spare(&self) -> usize
-        ensures { result ≡ spare_in self.now }
+        ensures spare { result ≡ spare_in self.now }
+        ensures none { owned_in self.now ≡ false → result ≡ 0 }
     {
         match self {
             CowBytes::Borrowed(_) => 0,
@@ -73,10 +74,12 @@ impl<'a> CowBytes<'a> {
         ensures err { OnErr result (IsUnchanged self.old self.new) }
         ensures fits { more ≤ spare_in self.old → owned_in self.old ≡ true → IsOk result }
         ensures spare { spare_in self.old ≤ spare_in self.new }
+        ensures in_place { more ≤ spare_in self.old → owned_in self.old ≡ true →
+            spare_in self.new ≡ spare_in self.old }
     {
         match self {
             CowBytes::Borrowed(bytes) => *self = CowBytes::Owned(copied(alloc, bytes, more)?),
-            CowBytes::Owned(bytes) => bytes.reserve(more)?,
+            CowBytes::Owned(bytes) => make_room(bytes, more)?,
         }
         Ok(())
     }
@@ -86,6 +89,8 @@ impl<'a> CowBytes<'a> {
         ensures bytes { IfOk result (λ h. bytes_in h ≡ bytes_in self.entry) }
         ensures owned { IfOk result (λ h. owned_in h ≡ true) }
         ensures spare { IfOk result (λ h. spare_in self.entry ≤ spare_in h) }
+        ensures in_place { owned_in self.entry ≡ true →
+            IfOk result (λ h. spare_in h ≡ spare_in self.entry) }
         ensures fits { owned_in self.entry ≡ true → IsOk result }
     {
         match self {
@@ -101,6 +106,8 @@ impl<'a> CowBytes<'a> {
         ensures bytes { bytes_in self.new ≡ slice_range (bytes_in self.old) start end }
         ensures owned { owned_in self.new ≡ owned_in self.old }
         ensures spare { spare_in self.old ≤ spare_in self.new }
+        ensures memory { owned_in self.old ≡ true → length (bytes_in self.new) + spare_in self.new
+            ≡ length (bytes_in self.old) + spare_in self.old }
     {
         match self {
             CowBytes::Borrowed(bytes) => *bytes = &bytes[start..end],
@@ -119,6 +126,8 @@ impl<'a> CowBytes<'a> {
         ensures bytes { bytes_in self.new ≡ [] }
         ensures owned { owned_in self.new ≡ owned_in self.old }
         ensures spare { spare_in self.old ≤ spare_in self.new }
+        ensures memory { owned_in self.old ≡ true →
+            spare_in self.new ≡ length (bytes_in self.old) + spare_in self.old }
     {
         match self {
             CowBytes::Borrowed(bytes) => *bytes = &[],
@@ -156,6 +165,8 @@ impl<'a> CowBytes<'a> {
         ensures fits { length (Q.bytes value.now) ≤ spare_in self.old → owned_in self.old ≡ true
             → IsOk result }
         ensures spare { spare_in self.old ≤ spare_in self.new + length (Q.bytes value.now) }
+        ensures spends { length (Q.bytes value.now) ≤ spare_in self.old → owned_in self.old ≡ true →
+            spare_in self.old ≡ spare_in self.new + length (Q.bytes value.now) }
         ensures spells { K.fault (Q.bytes value.now) ≡ None }
     {
         let count = value.arg_len();
@@ -221,6 +232,8 @@ impl<'a> CowBytes<'a> {
         ensures err { OnErr result (IsUnchanged self.old self.new) }
         ensures fits { owned_in self.old ≡ true → IsOk result }
         ensures spare { spare_in self.old ≤ spare_in self.new }
+        ensures frees { owned_in self.old ≡ true →
+            spare_in self.new ≡ spare_in self.old + (end - start) }
     {
         match self {
             CowBytes::Borrowed(bytes) => {
@@ -280,12 +293,43 @@ fn open_gap(bytes: &mut Vec<u8>, at: usize, count: usize) -> Result<(), NoMemory
     ensures fits { count ≤ vec_capacity bytes.old - vec_len bytes.old → IsOk result }
     ensures spare { vec_capacity bytes.old - vec_len bytes.old
         ≤ vec_capacity bytes.new - vec_len bytes.new + count }
+    ensures spends { count ≤ vec_capacity bytes.old - vec_len bytes.old →
+        vec_capacity bytes.new ≡ vec_capacity bytes.old }
 {
     let len = bytes.len();
-    bytes.reserve(count)?;
-    let _ = bytes.resize(len + count, 0);
+    make_room(bytes, count)?;
+    push_zeros(bytes, count);
     copy_bytes(bytes, at, len, at + count);
     Ok(())
+}
+
+/// Makes room for so many bytes more. It asks for memory only where the room is missing.
+#[inline]
+fn make_room(bytes: &mut Vec<u8>, count: usize) -> Result<(), NoMemory>
+    ensures items { bytes.new.items ≡ bytes.old.items }
+    ensures room { OnOk result (count ≤ vec_capacity bytes.new - vec_len bytes.new) }
+    ensures err { OnErr result (vec_capacity bytes.new ≡ vec_capacity bytes.old) }
+    ensures fits { count ≤ vec_capacity bytes.old - vec_len bytes.old → IsOk result }
+    ensures capacity { vec_capacity bytes.old ≤ vec_capacity bytes.new }
+    ensures in_place { count ≤ vec_capacity bytes.old - vec_len bytes.old →
+        vec_capacity bytes.new ≡ vec_capacity bytes.old }
+{
+    if bytes.capacity() - bytes.len() < count {
+        bytes.reserve(count)?;
+    }
+    Ok(())
+}
+
+/// Adds so many zeros, for which there is room.
+#[inline]
+fn push_zeros(bytes: &mut Vec<u8>, count: usize)
+    requires { count ≤ vec_capacity bytes.old - vec_len bytes.old }
+    ensures items { bytes.new.items ≡ bytes.old.items ++ replicate count 0 }
+    ensures capacity { vec_capacity bytes.new ≡ vec_capacity bytes.old }
+{
+    for _ in 0..count {
+        bytes.push_reserved(0);
+    }
 }
 
 /// Writes an argument over the bytes from a place on.

@@ -1,6 +1,6 @@
 -- Changes of a list at a place. f is what is written for a value, and w is the width of a field in
 -- bytes.
-use Rattle.std.specs.Prelude.{◌≡◌, ⊤, ℕ, ◌+◌, ◌^◌, ◌<◌, ◌≤◌, ◌==◌, Bool, true, List, []}
+use Rattle.std.specs.Prelude.{◌≡◌, ⊤, ℕ, ◌+◌, ◌-◌, ◌^◌, ◌<◌, ◌≤◌, ◌==◌, Bool, true, List, []}
 use Rattle.std.specs.Prelude.{length, set, slice_index_or, if◌then◌else◌, Option, Some, None}
 use Rattle.std.specs.Prelude.{Result, Ok, Err}
 use Rattle.std.specs.Borrow.{Bor}
@@ -87,6 +87,6 @@ pub record IsChanged {A : Type 0} (f : A → List ℕ) (w : ℕ) (K : List ℕ �
   pub is : bytes ≡ enc w (changed f c xs i)
   pub list : elements w bytes ≡ changed f c xs i
   pub sound : list_fault w K bytes ≡ None
-  pub keeps_room : length old + old_spare ≤ length bytes + spare
+  pub memory : spare ≡ length old + old_spare - length bytes
   pub grown : length bytes ≤ length old + growth f w c
   pub steps : u ≤ t + change_steps f w c xs (length old) i

@@ -1,5 +1,5 @@
 -- What contracts see of an owned vector, and when a change is refused.
-use Rattle.std.specs.Prelude.{◌≡◌, ℕ, List, Bool, true, false, Result, Ok, Err}
+use Rattle.std.specs.Prelude.{◌≡◌, ℕ, ◌+◌, ◌-◌, List, length, Bool, true, false, Result, Ok, Err}
 use Rattle.zv_owned.specs.declared.error.VecError.{VecError}
 use Rattle.zv_owned.specs.declared.error.VecError.TheVariants.{TooLarge, Memory}
 
@@ -8,6 +8,10 @@ pub record Owned : Type 0 where
   pub list : List (List ℕ)
   pub bytes : List ℕ
   pub spare : ℕ
+
+-- the bytes lie in the memory that there was, where they fit: the spare is what they leave of it
+abbrev pub KeepsMemory : Owned → Owned → Type 0
+KeepsMemory old new = new.spare ≡ length old.bytes + old.spare - length new.bytes
 
 -- a change that the size rule takes is refused only where an allocation fails, and any other as too
 -- large

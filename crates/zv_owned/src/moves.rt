@@ -41,8 +41,8 @@ pub(crate) fn fit_gaps<L: Ledger>(
     ensures succeeds { OnErr result (
         first.out + second.out + shelf.old.spare < first.into + second.into) }
     // what it takes
-    ensures keeps_room { OnOk result (length shelf.old.bytes + shelf.old.spare ≤
-        length shelf.new.bytes + shelf.new.spare) }
+    ensures memory { OnOk result (shelf.new.spare ≡
+        length shelf.old.bytes + shelf.old.spare - length shelf.new.bytes) }
     ensures free { OnErr result (steps.new ≡ steps.old) }
     ensures steps { OnOk result (steps.new ≤ steps.old
         + (length shelf.old.bytes - first.at - first.out - second.out)

@@ -248,6 +248,7 @@ impl<T: ZvKind, F: VarZeroVecFormat> VarZeroVecOwned<T, F> {
         ensures err { OnErr result (self.new ≡ self.old) }
         ensures succeeds { n ≤ self.old.spare → IsOk result }
         ensures keeps_room { self.old.spare ≤ self.new.spare }
+        ensures in_place { n ≤ self.old.spare → self.new.spare ≡ self.old.spare }
     {
         self.shelf.reserve(n)
     }
@@ -288,7 +289,7 @@ impl<T: ZvKind, F: VarZeroVecFormat> VarZeroVecOwned<T, F> {
     pub fn clear(&mut self)
         ensures list { self.new.list ≡ [] }
         ensures bytes { self.new.bytes ≡ [] }
-        ensures keeps_room { length self.old.bytes + self.old.spare ≤ self.new.spare }
+        ensures memory { self.new.spare ≡ length self.old.bytes + self.old.spare }
     {
         self.shelf.clear();
     }

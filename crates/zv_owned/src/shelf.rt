@@ -110,6 +110,7 @@ impl Shelf {
         ensures ok { OnOk result (n ≤ self.new.spare) }
         ensures err { OnErr result (self.new ≡ self.old) }
         ensures keeps_room { self.old.spare ≤ self.new.spare }
+        ensures in_place { n ≤ self.old.spare → self.new.spare ≡ self.old.spare }
         ensures succeeds { n ≤ self.old.spare → IsOk result }
     {
         if n > self.room {

@@ -78,8 +78,8 @@ fn begin<T: ZvKind, F: VarZeroVecFormat, Q: ZvArg<T>, L: Ledger>(
     ensures succeeds { OnErr result (length shelf.old.bytes + shelf.old.spare <
         length (enc F.W (new_elements Q.bytes value.entry))) }
     // what it takes
-    ensures keeps_room { OnOk result (length shelf.old.bytes + shelf.old.spare ≤
-        length shelf.new.bytes + shelf.new.spare) }
+    ensures memory { OnOk result (shelf.new.spare ≡
+        length shelf.old.bytes + shelf.old.spare - length shelf.new.bytes) }
     ensures steps { OnOk result (steps.new ≤ steps.old + begin_steps F.W
         (option_map (λ e. length e) (new_bytes Q.bytes value.entry))) }
 {
@@ -107,8 +107,8 @@ fn begin_with<T: ZvKind, F: VarZeroVecFormat, Q: ZvArg<T>, L: Ledger>(
     ensures succeeds { OnErr result (length shelf.old.bytes + shelf.old.spare <
         length (enc F.W (Q.bytes value.now ∷ []))) }
     // what it takes
-    ensures keeps_room { OnOk result (length shelf.old.bytes + shelf.old.spare ≤
-        length shelf.new.bytes + shelf.new.spare) }
+    ensures memory { OnOk result (shelf.new.spare ≡
+        length shelf.old.bytes + shelf.old.spare - length shelf.new.bytes) }
     ensures steps { OnOk result (steps.new ≤
         steps.old + F.W + 2 * (F.W + length (Q.bytes value.now))) }
 {
@@ -126,8 +126,8 @@ fn fit_len<L: Ledger>(shelf: &mut Shelf, n: usize, steps: &mut Steps<L>) -> Resu
     ensures err { OnErr result (shelf.new ≡ shelf.old) }
     ensures succeeds { OnErr result (length shelf.old.bytes + shelf.old.spare < n) }
     // what it takes
-    ensures keeps_room { OnOk result (length shelf.old.bytes + shelf.old.spare ≤
-        n + shelf.new.spare) }
+    ensures memory { OnOk result (shelf.new.spare ≡
+        length shelf.old.bytes + shelf.old.spare - n) }
     ensures steps { OnOk result (steps.new ≤ steps.old + n) }
     ensures free { OnErr result (steps.new ≡ steps.old) }
 {

@@ -252,6 +252,8 @@ impl<'a, T: ZvKind, F: VarZeroVecFormat> VarZeroVec<'a, T, F> {
         ensures succeeds { IsTrue (vector_owned self.old) → n ≤ vector_spare self.old →
             IsOk result }
         ensures keeps_room { vector_spare self.old ≤ vector_spare self.new }
+        ensures in_place { IsTrue (vector_owned self.old) → n ≤ vector_spare self.old →
+            vector_spare self.new ≡ vector_spare self.old }
     {
         self.slot.reserve(alloc, self.view, n)
     }
@@ -288,6 +290,8 @@ impl<'a, T: ZvKind, F: VarZeroVecFormat> VarZeroVec<'a, T, F> {
         ensures err { OnErr result (self.new ≡ self.old) }
         ensures succeeds { IsTrue (vector_owned self.old) → IsOk result }
         ensures keeps_room { vector_spare self.old ≤ vector_spare self.new }
+        ensures in_place { IsTrue (vector_owned self.old) →
+            vector_spare self.new ≡ vector_spare self.old }
     {
         self.reserve_bytes(alloc, 0)
     }
@@ -318,8 +322,8 @@ impl<'a, T: ZvKind, F: VarZeroVecFormat> VarZeroVec<'a, T, F> {
         ensures bytes { vector_bytes self.new ≡ [] }
         ensures owned { vector_owned self.new ≡ vector_owned self.old }
         ensures keeps_room { vector_spare self.old ≤ vector_spare self.new }
-        ensures room { IsTrue (vector_owned self.old) →
-            length (vector_bytes self.old) + vector_spare self.old ≤ vector_spare self.new }
+        ensures memory { IsTrue (vector_owned self.old) →
+            vector_spare self.new ≡ length (vector_bytes self.old) + vector_spare self.old }
     {
         match self.slot.as_owned() {
             Some(owned) => owned.clear(),
@@ -364,6 +368,8 @@ impl<'a, T: ZvKind, F: VarZeroVecFormat> VarZeroVec<'a, T, F> {
         ensures list { IfOk result (λ v. v.now.list ≡ vector_list self.old) }
         ensures bytes { IfOk result (λ v. v.now.bytes ≡ vector_bytes self.old) }
         ensures keeps_room { IfOk result (λ v. vector_spare self.old ≤ v.now.spare) }
+        ensures in_place { IsTrue (vector_owned self.old) →
+            IfOk result (λ v. v.now.spare ≡ vector_spare self.old) }
         ensures succeeds { IsTrue (vector_owned self.old) → IsOk result }
     {
         if let Err(e) = self.slot.reserve(alloc, self.view, 0) {

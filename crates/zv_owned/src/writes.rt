@@ -215,8 +215,8 @@ pub(crate) fn edit_bytes<T: ZvKind, F: VarZeroVecFormat, Q: ZvArg<T>, L: Ledger>
     ensures succeeds { OnErr result (F.W * edit.gone + edit.out + shelf.old.spare <
         F.W * length (option_to_list edit.start) + edit.into) }
     // what it takes
-    ensures keeps_room { OnOk result (length shelf.old.bytes + shelf.old.spare ≤
-        length shelf.new.bytes + shelf.new.spare) }
+    ensures memory { OnOk result (shelf.new.spare ≡
+        length shelf.old.bytes + shelf.old.spare - length shelf.new.bytes) }
     ensures steps { OnOk result (steps.new ≤ steps.old + (length shelf.old.bytes
         - F.W * edit.kept - F.W * edit.gone - edit.out)
         + (F.W * length (option_to_list edit.start) + edit.into - (F.W * edit.gone + edit.out))

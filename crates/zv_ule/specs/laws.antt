@@ -8,3 +8,4 @@ pub mod OptionSpellings
 pub mod PairSpellings
 pub mod Spellings
 pub mod Twins
+pub mod Widths

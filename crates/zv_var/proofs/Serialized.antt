@@ -1,7 +1,8 @@
 -- What values are written as, one after another.
-use Rattle.zv_var.proofs.Common.{◌≡◌, ℕ, zero, suc, ◌+◌, ◌-◌, ◌*◌, ◌^◌, ◌<◌, ◌≤◌, Bool, true, List, [], ◌∷◌, length, take, get_or, map, refl, ap, ◌∙◌, sym}
-use Rattle.zv_var.proofs.Common.{arith, length-append, Option, Some, None, inr, is_some, take_at, flat_map, concat, list_all, le, length-le, UleError, Part}
-use Rattle.zv_var.proofs.Common.{codable, fits, list_fault, starts, starts_from, AreValid, suc-mul}
+use Rattle.zv_var.proofs.Common.{◌≡◌, ℕ, zero, suc, ◌+◌, ◌-◌, ◌*◌, ◌^◌, ◌<◌, ◌≤◌, Bool, true, List, [], ◌∷◌, ◌++◌, length, take, get_or, map, refl, ap}
+use Rattle.zv_var.proofs.Common.{◌∙◌, sym, arith, length-append, Option, Some, None, inr, is_some}
+use Rattle.zv_var.proofs.Common.{take_at, flat_map, concat, list_all, le, length-le, UleError, Part}
+use Rattle.zv_var.proofs.Common.{codable, elements_after, fault_after, fits, list_fault, starts, starts_from, AreValid, suc-mul}
 use Rattle.std.proofs.Common.{add-one, IfSome}
 use Rattle.std.proofs.Math.Nat.{le-mul_of_pos_right}
 use Rattle.std.proofs.lemmas.List.{take_all, length-map}
@@ -10,7 +11,7 @@ use Rattle.std.proofs.lemmas.List.Folds.{flat_map-map, length-flat_map-take}
 use borrow.Rule.Slice.PartMut.{put_mid}
 use Rattle.zv_ule.proofs.Written.{flat_map-more, written_more}
 use Rattle.zv_var.specs.Serialize.{lengthless_len, lengthless, serialized, serialized_len}
-use Rattle.zv_var.proofs.Encoding.{length-starts_from}
+use Rattle.zv_var.proofs.Encoding.{has_starts, length-starts_from, read_lengthless}
 use Rattle.zv_var.proofs.Fields.{length-flat_map-le, le_zero}
 use Rattle.zv_var.proofs.Read.{fault_from_Part}
 
@@ -101,6 +102,13 @@ module _ {X : Type 0} (p : X → Bool) (f : X → List ℕ) (w : ℕ) (xs : List
   pub lengthless_sound : (K : List ℕ → Option UleError) (n : ℕ) → 0 < w → 256 ^ w ≤ 2 ^ 32 → lengthless_len p f w xs ≡ Some n →
       AreValid K (map f xs) → list_fault w K (serialized w (map f xs)) ≡ None
   lengthless_sound K n some narrow e valid = let l = length_spelled f w xs in sound K some narrow (grind arith) valid
+
+  -- and the starts and the spellings, as they are written, are read again
+  pub read_measured : (n : ℕ) (ss es : List ℕ) → 256 ^ w ≤ 2 ^ 32 → lengthless_len p f w xs ≡ Some n →
+      ss ≡ flat_map (le w) (starts (map f xs)) → es ≡ flat_map f xs → (elements_after w (length xs) (ss ++ es) ≡ map f xs) ×
+      ((K : List ℕ → Option UleError) → AreValid K (map f xs) → fault_after w K (length xs) (ss ++ es) ≡ None)
+  read_measured n ss es narrow e is_starts is_spelled = rw (is_starts, is_spelled, ← joined f xs, ← length-map xs f)
+      (read_lengthless w (map f xs) (has_starts w (map f xs) narrow (grind arith)))
 
   pub serialized_sound : (K : List ℕ → Option UleError) (m : ℕ) → 0 < w → 256 ^ w ≤ 2 ^ 32 → serialized_len p f w xs ≡ Some m →
       AreValid K (map f xs) → list_fault w K (serialized w (map f xs)) ≡ None

@@ -1,7 +1,13 @@
 // What the format means: worked examples, and laws. Each call does nothing, and its contract is
 // what it is for.
-ghost use Rattle.zv_var.specs.Laws.{FramedIsTaken, NamesLeast, NoneWrong, OneEncoding, OneList};
-ghost use Rattle.zv_var.specs.Laws.{ReadsBack, SoundExactly, WrittenStands};
+ghost use Rattle.std.specs.Prelude.{◌≡◌, ◌↔◌};
+ghost use Rattle.std.specs.Cmp.Lexicographic.{slice_cmp};
+ghost use Rattle.std.specs.declared.cmp.Ordering.TheVariants.{Equal};
+ghost use Rattle.zv_ule.specs.Kinds.{EqualIsSame};
+ghost use Rattle.zv_var.specs.Views.{list_of};
+ghost use Rattle.zv_var.specs.Laws.{FramedIsTaken, LengthlessIsSound, LengthlessReadsBack};
+ghost use Rattle.zv_var.specs.Laws.{NamesLeast, NoneWrong, OneEncoding, OneList, ReadsBack};
+ghost use Rattle.zv_var.specs.Laws.{ShortHasStarts, SoundExactly, WrittenStands};
 ghost use Rattle.zv_var.specs.Examples.{CountOfZeroIsEmpty, CountOfZeroIsSound, CutCountIsRefused};
 ghost use Rattle.zv_var.specs.Examples.{CutLengthIsNoPart, CutPartIsNoPart, CutStartsAreRefused};
 ghost use Rattle.zv_var.specs.Examples.{EarlierFaultIsNamed, FallingStartIsRefused};
@@ -10,6 +16,9 @@ ghost use Rattle.zv_var.specs.Examples.{FramedPartIsTaken, LargeCountIsRefused, 
 ghost use Rattle.zv_var.specs.Examples.{NoBytesAreSound, NoElementsAreNoBytes, PartIsFramed};
 ghost use Rattle.zv_var.specs.Examples.{StartPastEndIsRefused, TwoTextsInFourByteFields};
 ghost use Rattle.zv_var.specs.Examples.{TwoTextsInOneByteFields, TwoTextsInTwoByteFields};
+
+use crate::slice::VarZeroSlice;
+use zv_ule::{VarZeroVecFormat, ZvOrd};
 
 /// Small lists, and their encodings byte for byte.
 pub fn lists_by_hand()
@@ -57,8 +66,25 @@ pub fn one_reading()
     ensures names_least { NamesLeast }
 {}
 
+/// A list that is written without its count is read again by its length.
+pub fn lengthless_reading()
+    ensures short_has_starts { ShortHasStarts }
+    ensures reads_back { LengthlessReadsBack }
+    ensures sound { LengthlessIsSound }
+{}
+
 /// Parts that were framed are taken again, one after another.
 #[tactic(auto, using(crate::proofs::Frames::first_part_of_framed))]
 pub fn framed_is_taken()
     ensures { FramedIsTaken }
+{}
+
+/// Two lists compare Equal exactly where their elements are the same, in a kind whose elements do.
+pub fn exact_order_of_lists<T: ZvOrd, F: VarZeroVecFormat>(
+    left: VarZeroSlice<'_, T, F>,
+    right: VarZeroSlice<'_, T, F>,
+)
+    requires { EqualIsSame T.fault T.cmp }
+    ensures { (slice_cmp T.cmp (list_of left.entry) (list_of right.entry) ≡ Equal)
+        ↔ (list_of left.entry ≡ list_of right.entry) }
 {}

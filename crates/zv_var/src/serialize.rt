@@ -6,7 +6,8 @@ ghost use Rattle.std.specs.Prelude.{is_some, OnOk};
 ghost use Rattle.std.specs.List.{concat, flat_map, list_all};
 ghost use Rattle.std.specs.Option.{option_map};
 ghost use Rattle.zv_ule.specs.Bytes.{le};
-ghost use Rattle.zv_var.specs.Format.{codable, enc, list_fault, starts};
+ghost use Rattle.zv_var.specs.Format.{codable, elements_after, enc, fault_after, list_fault};
+ghost use Rattle.zv_var.specs.Format.{starts};
 ghost use Rattle.zv_var.specs.Laws.{AreValid};
 ghost use Rattle.zv_var.specs.Serialize.{lengthless, lengthless_len, serialized, serialized_len};
 
@@ -115,6 +116,9 @@ pub fn write_serializable_bytes_without_length<
     requires len { lengthless_len A.fits A.spelling F.W elements.now ≡ Some (length output.old) }
     ensures written { output.new ≡ lengthless F.W (map A.spelling elements.now) }
     ensures valid { AreValid T.fault (map A.spelling elements.now) }
+    ensures read { elements_after F.W (length elements.now) output.new
+        ≡ map A.spelling elements.now }
+    ensures sound { fault_after F.W T.fault (length elements.now) output.new ≡ None }
 {
     let at = F::W * elements.len().saturating_sub(1);
     let (starts, spellings) = output.split_at_mut(at);

@@ -6,7 +6,7 @@ ghost use Rattle.zv_ule.specs.declared.error.TyName.TheVariants.{ZeroSlice as Sl
 
 use crate::slice::ZeroSlice;
 use std::marker::PhantomData;
-use zv_ule::{AsULE, SliceULE, TyName, ULE, UleError, VarRef, VarULE, ZvKind};
+use zv_ule::{AsULE, SliceULE, TyName, ULE, UleError, UsableKind, VarRef, VarULE, ZvKind};
 
 /// The kind of lists of values of fixed width: the elements are the byte strings that
 /// [`ZeroSlice::parse_bytes`] takes, and the error of any other is its.
@@ -35,6 +35,10 @@ impl<T: AsULE> ZvKind for ZeroSliceULE<T> {
 }
 
 impl<T: AsULE> VarULE for ZeroSliceULE<T> {}
+
+impl<T: AsULE + UsableKind> UsableKind for ZeroSliceULE<T> {
+    ghost is_usable = { T.is_usable };
+}
 
 impl<T: AsULE> ZeroSliceULE<T> {
     ghost use Rattle.zv_fixed.specs.Views.{bytes_of};

@@ -6,6 +6,7 @@ ghost use Rattle.std.specs.Prelude.{true, false, Some, None, IsTrue, IfOk, IsOk,
 ghost use Rattle.std.specs.List.{slice_get};
 ghost use Rattle.zv_ule.specs.Chunks.{chunks_of};
 ghost use Rattle.zv_ule.specs.Fixed.{is_width};
+ghost use Rattle.zv_fixed.specs.Vectors.{KeepsMemory};
 
 use super::ZeroVec;
 use crate::chunks::start_of;
@@ -18,7 +19,8 @@ impl<'a, T: AsULE> ZeroVec<'a, T> {
     /// How many bytes the list can grow by without memory: none where it borrows its bytes.
     #[inline]
     pub fn spare(&self) -> usize
-        ensures { result ≡ self.now.spare }
+        ensures spare { result ≡ self.now.spare }
+        ensures none { self.now.owned ≡ false → result ≡ 0 }
     {
         self.cow.spare()
     }
@@ -32,6 +34,7 @@ impl<'a, T: AsULE> ZeroVec<'a, T> {
         ensures err { OnErr result (self.new ≡ self.old) }
         ensures fits { self.old.owned ≡ true → IsOk result }
         ensures spare { self.old.spare ≤ self.new.spare }
+        ensures in_place { self.old.owned ≡ true → self.new.spare ≡ self.old.spare }
     {
         self.reserve_bytes(alloc, 0)
     }
@@ -46,6 +49,8 @@ impl<'a, T: AsULE> ZeroVec<'a, T> {
         ensures err { OnErr result (self.new ≡ self.old) }
         ensures fits { n ≤ self.old.spare → self.old.owned ≡ true → IsOk result }
         ensures spare { self.old.spare ≤ self.new.spare }
+        ensures in_place { n ≤ self.old.spare → self.old.owned ≡ true →
+            self.new.spare ≡ self.old.spare }
     {
         self.cow.reserve(alloc, n)
     }
@@ -82,6 +87,8 @@ impl<'a, T: AsULE> ZeroVec<'a, T> {
         ensures err { OnErr result (self.new ≡ self.old) }
         ensures fits { T.ULE.width ≤ self.old.spare → self.old.owned ≡ true → IsOk result }
         ensures spare { self.old.spare ≤ self.new.spare + T.ULE.width }
+        ensures spends { T.ULE.width ≤ self.old.spare → self.old.owned ≡ true →
+            self.old.spare ≡ self.new.spare + T.ULE.width }
         ensures long { length (Q.bytes value.now) ≡ T.ULE.width }
     {
         let start = start_of::<T::ULE>(self.cow.bytes(), index);
@@ -122,6 +129,7 @@ impl<'a, T: AsULE> ZeroVec<'a, T> {
         ensures err { OnErr result (self.new ≡ self.old) }
         ensures fits { self.old.owned ≡ true → IsOk result }
         ensures spare { self.old.spare ≤ self.new.spare }
+        ensures frees { self.old.owned ≡ true → self.new.spare ≡ self.old.spare + T.ULE.width }
     {
         self.all_read();
         let start = start_of::<T::ULE>(self.cow.bytes(), index);
@@ -142,6 +150,8 @@ impl<'a, T: AsULE> ZeroVec<'a, T> {
         ensures err { OnErr result (self.new ≡ self.old) }
         ensures fits { T.ULE.width ≤ self.old.spare → self.old.owned ≡ true → IsOk result }
         ensures spare { self.old.spare ≤ self.new.spare + T.ULE.width }
+        ensures spends { T.ULE.width ≤ self.old.spare → self.old.owned ≡ true →
+            self.old.spare ≡ self.new.spare + T.ULE.width }
     {
         self.all_read();
         one_chunk(&value);
@@ -157,6 +167,8 @@ impl<'a, T: AsULE> ZeroVec<'a, T> {
         ensures err { OnErr result (self.new ≡ self.old) }
         ensures fits { T.ULE.width ≤ self.old.spare → self.old.owned ≡ true → IsOk result }
         ensures spare { self.old.spare ≤ self.new.spare + T.ULE.width }
+        ensures spends { T.ULE.width ≤ self.old.spare → self.old.owned ≡ true →
+            self.old.spare ≡ self.new.spare + T.ULE.width }
     {
         self.insert(alloc, self.len(), value)
     }
@@ -171,6 +183,7 @@ impl<'a, T: AsULE> ZeroVec<'a, T> {
         ensures err { OnErr result (self.new ≡ self.old) }
         ensures fits { self.old.owned ≡ true → IsOk result }
         ensures spare { self.old.spare ≤ self.new.spare }
+        ensures in_place { self.old.owned ≡ true → self.new.spare ≡ self.old.spare }
     {
         self.all_read();
         one_chunk(&value);
@@ -195,6 +208,8 @@ impl<'a, T: AsULE> ZeroVec<'a, T> {
         ensures err { OnErr result (self.new ≡ self.old) }
         ensures fits { T.ULE.width ≤ self.old.spare → self.old.owned ≡ true → IsOk result }
         ensures spare { self.old.spare ≤ self.new.spare + T.ULE.width }
+        ensures spends { T.ULE.width ≤ self.old.spare → self.old.owned ≡ true →
+            self.old.spare ≡ self.new.spare + T.ULE.width }
     {
         self.insert_with(Some(alloc), index, value)
     }
@@ -217,6 +232,7 @@ impl<'a, T: AsULE> ZeroVec<'a, T> {
         ensures err { OnErr result (self.new ≡ self.old) }
         ensures fits { self.old.owned ≡ true → IsOk result }
         ensures spare { self.old.spare ≤ self.new.spare }
+        ensures in_place { self.old.owned ≡ true → self.new.spare ≡ self.old.spare }
     {
         self.set_with(Some(alloc), index, value)
     }
@@ -235,6 +251,7 @@ impl<'a, T: AsULE> ZeroVec<'a, T> {
         ensures err { OnErr result (self.new ≡ self.old) }
         ensures fits { self.old.owned ≡ true → IsOk result }
         ensures spare { self.old.spare ≤ self.new.spare }
+        ensures frees { self.old.owned ≡ true → self.new.spare ≡ self.old.spare + T.ULE.width }
     {
         let value = self.at(index);
         self.cut_with(Some(alloc), index)?;
@@ -248,6 +265,7 @@ impl<'a, T: AsULE> ZeroVec<'a, T> {
         ensures values { self.new.values ≡ slice_range self.old.values start end }
         ensures owned { self.new.owned ≡ self.old.owned }
         ensures spare { self.old.spare ≤ self.new.spare }
+        ensures memory { KeepsMemory self.old self.new }
     {
         self.all_read();
         let from = start_of::<T::ULE>(self.cow.bytes(), start);
@@ -263,6 +281,7 @@ impl<'a, T: AsULE> ZeroVec<'a, T> {
         ensures none { IfNone result (self.new ≡ self.old) }
         ensures owned { self.new.owned ≡ self.old.owned }
         ensures spare { self.old.spare ≤ self.new.spare }
+        ensures memory { KeepsMemory self.old self.new }
     {
         if self.is_empty() {
             return None;
@@ -280,6 +299,7 @@ impl<'a, T: AsULE> ZeroVec<'a, T> {
         ensures none { IfNone result (self.new ≡ self.old) }
         ensures owned { self.new.owned ≡ self.old.owned }
         ensures spare { self.old.spare ≤ self.new.spare }
+        ensures memory { KeepsMemory self.old self.new }
     {
         let index = self.len().checked_sub(1)?;
         let last = self.at(index);
@@ -293,6 +313,7 @@ impl<'a, T: AsULE> ZeroVec<'a, T> {
         ensures values { result.values ≡ take max self.entry.values }
         ensures owned { result.owned ≡ self.entry.owned }
         ensures spare { self.entry.spare ≤ result.spare }
+        ensures memory { KeepsMemory self.entry result }
     {
         let len = self.len().min(max);
         self.keep(0, len);
@@ -305,6 +326,7 @@ impl<'a, T: AsULE> ZeroVec<'a, T> {
         ensures values { self.new.values ≡ [] }
         ensures bytes { self.new.bytes ≡ [] }
         ensures owned { self.new.owned ≡ false }
+        ensures spare { self.new.spare ≡ 0 }
     {
         self.cow = CowBytes::Borrowed(&[]);
     }
@@ -316,6 +338,7 @@ impl<'a, T: AsULE> ZeroVec<'a, T> {
         ensures bytes { self.new.bytes ≡ [] }
         ensures owned { self.new.owned ≡ self.old.owned }
         ensures spare { self.old.spare ≤ self.new.spare }
+        ensures memory { KeepsMemory self.old self.new }
     {
         self.cow.clear();
     }
@@ -331,7 +354,7 @@ impl<'a, T: AsULE> ZeroVec<'a, T> {
         requires room { T.ULE.width ≤ self.old.spare }
         ensures values { self.new.values ≡ insert self.old.values index value }
         ensures owned { self.new.owned ≡ true }
-        ensures spare { self.old.spare ≤ self.new.spare + T.ULE.width }
+        ensures spare { self.old.spare ≡ self.new.spare + T.ULE.width }
     {
         self.all_read();
         one_chunk(&value);
@@ -364,7 +387,7 @@ impl<'a, T: AsULE> ZeroVec<'a, T> {
         ensures chunks { chunks_of T.ULE.width self.new.bytes
             ≡ remove (chunks_of T.ULE.width self.old.bytes) index }
         ensures owned { self.new.owned ≡ true }
-        ensures spare { self.old.spare ≤ self.new.spare }
+        ensures spare { self.new.spare ≡ self.old.spare + T.ULE.width }
     {
         let value = self.at(index);
         let _ = self.cut_with(None, index);
@@ -384,7 +407,7 @@ impl<'a, T: AsULE> ZeroVec<'a, T> {
         ensures values { self.new.values
             ≡ insert self.old.values index (T.loaded (T.ULE.value (Q.bytes value.now))) }
         ensures owned { self.new.owned ≡ true }
-        ensures spare { self.old.spare ≤ self.new.spare + length (Q.bytes value.now) }
+        ensures spare { self.old.spare ≡ self.new.spare + length (Q.bytes value.now) }
     {
         let _ = self.insert_with(None, index, value);
     }

@@ -94,6 +94,8 @@ impl<'a, T: AsULE> ZeroVec<'a, T> {
         ensures owned { IfOk result (λ v. v.owned ≡ true) }
         ensures fits { self.entry.owned ≡ true → IsOk result }
         ensures spare { IfOk result (λ v. self.entry.spare ≤ v.spare) }
+        ensures in_place { self.entry.owned ≡ true →
+            IfOk result (λ v. v.spare ≡ self.entry.spare) }
     {
         let ZeroVec { cow, of: _ } = self;
         Ok(ZeroVec {

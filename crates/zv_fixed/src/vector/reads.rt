@@ -1,5 +1,5 @@
 // Reads of a list.
-ghost use Rattle.std.specs.Prelude.{◌≡◌, ◌≢◌, ◌==◌, ◌-◌, ◌^◌, ◌<◌, ◌↔◌, [], ◌∷◌, ◌++◌, length};
+ghost use Rattle.std.specs.Prelude.{◌≡◌, ◌≢◌, ◌==◌, ◌*◌, ◌-◌, ◌^◌, ◌<◌, ◌↔◌, [], ◌∷◌, ◌++◌, length};
 ghost use Rattle.std.specs.Prelude.{flat_map, map, slice_index_or, slice_range, false, Result};
 ghost use Rattle.std.specs.Prelude.{Some, None, IsTrue, IsNone, IfOk, IfSome, IsOk, MatchOption};
 ghost use Rattle.std.specs.Cmp.Lexicographic.{pointwise, slice_cmp};
@@ -104,6 +104,8 @@ impl<'a, T: AsULE> ZeroVec<'a, T> {
         ensures none { IsNone result ↔ IsOutside range (length self.now.values) }
         ensures values { IfSome result (λ s. values_in s
             ≡ slice_range self.now.values range.start range.end) }
+        ensures bytes { IfSome result (λ s. bytes_of s ≡ slice_range self.now.bytes
+            (range.start * T.ULE.width) (range.end * T.ULE.width)) }
     {
         self.as_slice().get_subslice(range)
     }

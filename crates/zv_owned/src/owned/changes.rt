@@ -4,7 +4,7 @@ ghost use Rattle.std.specs.Prelude.{set, slice_index_or, OnOk, OnErr, List, ◌-
 ghost use Rattle.std.specs.List.{insert, remove};
 ghost use Rattle.zv_var.specs.Format.{enc};
 ghost use Rattle.zv_owned.specs.Changes.{HasPlace, OnMemory, changed, growth, takes_change};
-ghost use Rattle.zv_owned.specs.Owned.{TooLargeUnless};
+ghost use Rattle.zv_owned.specs.Owned.{KeepsMemory, TooLargeUnless};
 ghost use Rattle.zv_owned.specs.Size.{takes_insert, takes_replace};
 
 use super::VarZeroVecOwned;
@@ -40,8 +40,7 @@ impl<T: ZvKind, F: VarZeroVecFormat> VarZeroVecOwned<T, F> {
             length (enc F.W (changed Q.bytes change.entry self.old.list index))) }
         ensures reserved { growth Q.bytes F.W change.entry ≤ self.old.spare → IsOk result }
         // what it takes
-        ensures keeps_room { OnOk result (self.old.spare ≤
-            self.new.spare + (length self.new.bytes - length self.old.bytes)) }
+        ensures memory { OnOk result (KeepsMemory self.old self.new) }
         ensures growth { OnOk result (self.old.spare ≤
             self.new.spare + growth Q.bytes F.W change.entry) }
     {
@@ -67,8 +66,7 @@ impl<T: ZvKind, F: VarZeroVecFormat> VarZeroVecOwned<T, F> {
             length (enc F.W (changed Q.bytes change.entry self.old.list index))) }
         ensures reserved { growth Q.bytes F.W change.entry ≤ self.old.spare → IsOk result }
         // what it takes
-        ensures keeps_room { OnOk result (self.old.spare ≤
-            self.new.spare + (length self.new.bytes - length self.old.bytes)) }
+        ensures memory { OnOk result (KeepsMemory self.old self.new) }
         ensures growth { OnOk result (self.old.spare ≤
             self.new.spare + growth Q.bytes F.W change.entry) }
     {
@@ -91,8 +89,7 @@ impl<T: ZvKind, F: VarZeroVecFormat> VarZeroVecOwned<T, F> {
             (length (Q.bytes value.now))) result }
         ensures succeeds { OnMemory result (length self.old.bytes + self.old.spare <
             length (enc F.W (insert self.old.list index (Q.bytes value.now)))) }
-        ensures keeps_room { OnOk result (self.old.spare ≤
-            self.new.spare + (length self.new.bytes - length self.old.bytes)) }
+        ensures memory { OnOk result (KeepsMemory self.old self.new) }
     {
         if !takes_insert::<T, F, F>(self.as_slice(), value.arg_len()) {
             return Err(VecError::TooLarge);
@@ -118,8 +115,7 @@ impl<T: ZvKind, F: VarZeroVecFormat> VarZeroVecOwned<T, F> {
             (length (Q.bytes value.now))) result }
         ensures succeeds { OnMemory result (length self.old.bytes + self.old.spare <
             length (enc F.W (set self.old.list index (Q.bytes value.now)))) }
-        ensures keeps_room { OnOk result (self.old.spare ≤
-            self.new.spare + (length self.new.bytes - length self.old.bytes)) }
+        ensures memory { OnOk result (KeepsMemory self.old self.new) }
     {
         if !takes_replace::<T, F, F>(self.as_slice(), index, value.arg_len()) {
             return Err(VecError::TooLarge);
@@ -139,6 +135,7 @@ impl<T: ZvKind, F: VarZeroVecFormat> VarZeroVecOwned<T, F> {
         ensures bytes { self.new.bytes ≡ enc F.W self.new.list }
         // what it takes
         ensures keeps_room { self.old.spare ≤ self.new.spare + (length (Q.bytes value.now) + F.W) }
+        ensures memory { KeepsMemory self.old self.new }
     {
         let _ = self.make(index, Change::Insert(value));
     }
@@ -156,6 +153,7 @@ impl<T: ZvKind, F: VarZeroVecFormat> VarZeroVecOwned<T, F> {
         ensures bytes { self.new.bytes ≡ enc F.W self.new.list }
         // what it takes
         ensures keeps_room { self.old.spare ≤ self.new.spare + (length (Q.bytes value.now) + F.W) }
+        ensures memory { KeepsMemory self.old self.new }
     {
         let _ = self.make(index, Change::Replace(value));
     }
@@ -167,6 +165,7 @@ impl<T: ZvKind, F: VarZeroVecFormat> VarZeroVecOwned<T, F> {
         ensures list { self.new.list ≡ remove self.old.list index }
         ensures bytes { self.new.bytes ≡ enc F.W self.new.list }
         ensures keeps_room { self.old.spare ≤ self.new.spare }
+        ensures memory { KeepsMemory self.old self.new }
     {
         let _ = self.make::<VarRef<'_, T>>(index, Change::Remove);
     }
@@ -192,8 +191,7 @@ impl<T: ZvKind, F: VarZeroVecFormat> VarZeroVecOwned<T, F> {
             (length (A.spelling element.now))) result }
         ensures succeeds { OnMemory result (length self.old.bytes + self.old.spare <
             length (enc F.W (insert self.old.list index (A.spelling element.now)))) }
-        ensures keeps_room { OnOk result (self.old.spare ≤
-            self.new.spare + (length self.new.bytes - length self.old.bytes)) }
+        ensures memory { OnOk result (KeepsMemory self.old self.new) }
     {
         let value = Encoded::for_list(self.as_slice(), element).ok_or(VecError::TooLarge)?;
         self.insert_arg(index, &value)
@@ -211,8 +209,7 @@ impl<T: ZvKind, F: VarZeroVecFormat> VarZeroVecOwned<T, F> {
             (length (A.spelling element.now))) result }
         ensures succeeds { OnMemory result (length self.old.bytes + self.old.spare <
             length (enc F.W (self.old.list ++ A.spelling element.now ∷ []))) }
-        ensures keeps_room { OnOk result (self.old.spare ≤
-            self.new.spare + (length self.new.bytes - length self.old.bytes)) }
+        ensures memory { OnOk result (KeepsMemory self.old self.new) }
     {
         let end = self.len();
         self.insert(end, element)
@@ -240,8 +237,7 @@ impl<T: ZvKind, F: VarZeroVecFormat> VarZeroVecOwned<T, F> {
             (length (A.spelling element.now))) result }
         ensures succeeds { OnMemory result (length self.old.bytes + self.old.spare <
             length (enc F.W (set self.old.list index (A.spelling element.now)))) }
-        ensures keeps_room { OnOk result (self.old.spare ≤
-            self.new.spare + (length self.new.bytes - length self.old.bytes)) }
+        ensures memory { OnOk result (KeepsMemory self.old self.new) }
     {
         let value = Encoded::for_list(self.as_slice(), element).ok_or(VecError::TooLarge)?;
         self.replace_arg(index, &value)

@@ -1,9 +1,10 @@
 // Changes of an owned list, with their steps counted.
-ghost use Rattle.std.specs.Prelude.{◌≡◌, ◌&&◌, ◌+◌, ◌<◌, ◌≤◌, length, OnOk, OnErr, ◌-◌};
+ghost use Rattle.std.specs.Prelude.{◌≡◌, ◌&&◌, ◌+◌, ◌<◌, ◌≤◌, length, OnOk, OnErr, IsOk};
 ghost use Rattle.zv_var.specs.Format.{enc};
 ghost use Rattle.zv_owned.specs.Changes.{HasPlace, IsBelow, OnMemory, change_steps, changed};
 ghost use Rattle.zv_owned.specs.Changes.{fits_change, takes_change};
-ghost use Rattle.zv_owned.specs.Owned.{TooLargeUnless};
+ghost use Rattle.zv_owned.specs.declared.change.Change.TheVariants.{Remove};
+ghost use Rattle.zv_owned.specs.Owned.{KeepsMemory, TooLargeUnless};
 
 use super::VarZeroVecOwned;
 use crate::change::Change;
@@ -34,11 +35,11 @@ impl<T: ZvKind, F: VarZeroVecFormat> VarZeroVecOwned<T, F> {
         ensures err { OnErr result (self.new ≡ self.old) }
         ensures refused { TooLargeUnless
             (takes_change Q.bytes F.W change.entry self.old.list index) result }
+        ensures removed { change.entry ≡ Remove → IsOk result }
         ensures succeeds { OnMemory result (length self.old.bytes + self.old.spare <
             length (enc F.W (changed Q.bytes change.entry self.old.list index))) }
         // what it takes
-        ensures keeps_room { OnOk result (self.old.spare ≤
-            self.new.spare + (length self.new.bytes - length self.old.bytes)) }
+        ensures memory { OnOk result (KeepsMemory self.old self.new) }
         ensures steps { OnOk result (steps.new ≤ steps.old + change_steps Q.bytes F.W
             change.entry self.old.list (length self.old.bytes) index) }
     {
@@ -68,11 +69,11 @@ impl<T: ZvKind, F: VarZeroVecFormat> VarZeroVecOwned<T, F> {
         ensures err { OnErr result (self.new ≡ self.old) }
         ensures refused { TooLargeUnless (fits_change A.fits change.entry &&
             takes_change A.spelling F.W change.entry self.old.list index) result }
+        ensures removed { change.entry ≡ Remove → IsOk result }
         ensures succeeds { OnMemory result (length self.old.bytes + self.old.spare <
             length (enc F.W (changed A.spelling change.entry self.old.list index))) }
         // what it takes
-        ensures keeps_room { OnOk result (self.old.spare ≤
-            self.new.spare + (length self.new.bytes - length self.old.bytes)) }
+        ensures memory { OnOk result (KeepsMemory self.old self.new) }
         ensures steps { OnOk result (steps.new ≤ steps.old + change_steps A.spelling F.W
             change.entry self.old.list (length self.old.bytes) index) }
     {

@@ -1,6 +1,6 @@
 // Changes of a list that is borrowed, or owns its bytes.
-ghost use Rattle.std.specs.Prelude.{◌≡◌, ◌+◌, ◌^◌, ◌<◌, ◌≤◌, [], length, set, slice_index_or, None};
-ghost use Rattle.std.specs.Prelude.{Some, IsTrue, OnOk, OnErr, IsOk, true};
+ghost use Rattle.std.specs.Prelude.{◌≡◌, ◌+◌, ◌-◌, ◌^◌, ◌<◌, ◌≤◌, [], length, set, None, Some};
+ghost use Rattle.std.specs.Prelude.{slice_index_or, IsTrue, OnOk, OnErr, IsOk, true};
 ghost use Rattle.std.specs.List.{insert, remove};
 ghost use Rattle.zv_var.specs.Format.{enc};
 ghost use Rattle.zv_owned.specs.Changes.{HasPlace, IsBelow, OnMemory, changed, takes_change};
@@ -118,6 +118,9 @@ impl<'a, T: ZvKind, F: VarZeroVecFormat> VarZeroVec<'a, T, F> {
         // where it is refused
         ensures err { OnErr result (self.new ≡ self.old) }
         ensures succeeds { IsTrue (vector_owned self.old) → IsOk result }
+        ensures memory { IsTrue (vector_owned self.old) → vector_spare self.new ≡
+            length (vector_bytes self.old) + vector_spare self.old
+            - length (vector_bytes self.new) }
     {
         match self.slot.as_owned() {
             Some(owned) => owned.remove(index),
@@ -146,6 +149,8 @@ impl<'a, T: ZvKind, F: VarZeroVecFormat> VarZeroVec<'a, T, F> {
         // what it takes
         ensures keeps_room { vector_spare self.old ≤
             vector_spare self.new + (length (Q.bytes value.now) + F.W) }
+        ensures memory { vector_spare self.new ≡ length (vector_bytes self.old)
+            + vector_spare self.old - length (vector_bytes self.new) }
     {
         if let Some(owned) = self.slot.as_owned() {
             owned.insert_reserved(index, value);
@@ -169,6 +174,8 @@ impl<'a, T: ZvKind, F: VarZeroVecFormat> VarZeroVec<'a, T, F> {
         // what it takes
         ensures keeps_room { vector_spare self.old ≤
             vector_spare self.new + (length (Q.bytes value.now) + F.W) }
+        ensures memory { vector_spare self.new ≡ length (vector_bytes self.old)
+            + vector_spare self.old - length (vector_bytes self.new) }
     {
         if let Some(owned) = self.slot.as_owned() {
             owned.replace_reserved(index, value);
@@ -185,6 +192,8 @@ impl<'a, T: ZvKind, F: VarZeroVecFormat> VarZeroVec<'a, T, F> {
         ensures owned { vector_owned self.new ≡ true }
         // what it takes
         ensures keeps_room { vector_spare self.old ≤ vector_spare self.new }
+        ensures memory { vector_spare self.new ≡ length (vector_bytes self.old)
+            + vector_spare self.old - length (vector_bytes self.new) }
     {
         if let Some(owned) = self.slot.as_owned() {
             owned.remove(index);

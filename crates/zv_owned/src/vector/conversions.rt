@@ -42,6 +42,8 @@ impl<'a, T: ZvKind, F: VarZeroVecFormat> VarZeroVec<'a, T, F> {
         ensures bytes { IfOk result (λ v. vector_bytes v ≡ vector_bytes self.entry) }
         ensures owned { IfOk result (λ v. vector_owned v ≡ true) }
         ensures keeps_room { IfOk result (λ v. vector_spare self.entry ≤ vector_spare v) }
+        ensures in_place { IsTrue (vector_owned self.entry) →
+            IfOk result (λ v. vector_spare v ≡ vector_spare self.entry) }
         ensures succeeds { IsTrue (vector_owned self.entry) → IsOk result }
     {
         let owned = self.slot.into_list(alloc, self.view)?;

@@ -51,6 +51,7 @@ impl<T: ZvKind, F: VarZeroVecFormat> Slot<T, F> {
         ensures list { IfOk result (λ v. v.list ≡ list_in self (list_of list.entry)) }
         ensures bytes { IfOk result (λ v. v.bytes ≡ bytes_in self (bytes_of list.entry)) }
         ensures keeps_room { IfOk result (λ v. spare_in self ≤ v.spare) }
+        ensures in_place { is_some self ≡ true → IfOk result (λ v. v.spare ≡ spare_in self) }
         ensures succeeds { is_some self ≡ true → IsOk result }
     {
         match self.owned {
@@ -77,6 +78,8 @@ impl<T: ZvKind, F: VarZeroVecFormat> Slot<T, F> {
         ensures err { OnErr result (self.new ≡ self.old) }
         ensures succeeds { is_some self.old ≡ true → n ≤ spare_in self.old → IsOk result }
         ensures keeps_room { spare_in self.old ≤ spare_in self.new }
+        ensures in_place { is_some self.old ≡ true → n ≤ spare_in self.old →
+            spare_in self.new ≡ spare_in self.old }
     {
         match self.as_owned() {
             Some(owned) => owned.reserve_bytes(n),

@@ -123,7 +123,7 @@ returns-in_ok-edit_bytes-in-Some-clause-done g c =
       is = is;
       list = made.reads;
       sound = made.sound;
-      keeps_room = c.in_ok-edit_bytes-in-Some.ensures.keeps_room;
+      memory = c.in_ok-edit_bytes-in-Some.ensures.memory;
       grown = omega (arith, ap length is, grows g at);
       steps = steps_of g.Q.ZvArg.bytes (w g at) c.args.change l c.args.index _ _ _ c.args.steps.now _ c.gone.ensures c.value-value.ensures
           (steps_within s (length l) c.args.index c.gone.result _ c.args.steps.now (ap length (sym parts)) (sym i) (sym j) (place g at).brings
@@ -147,7 +147,7 @@ returns-in_ok-begin-in-None-clause-done g c =
       is = is;
       list = made.reads;
       sound = made.sound;
-      keeps_room = c.in_ok-begin-in-None.ensures.keeps_room;
+      memory = c.in_ok-begin-in-None.ensures.memory;
       grown = omega (arith, ap length is, grows g at);
       steps = steps_of g.Q.ZvArg.bytes (w g at) c.args.change l c.args.index _ _ _ c.args.steps.now _ c.gone.ensures c.value-value.ensures
           (omega (
