@@ -1,5 +1,6 @@
 // A list in a format whose count stands elsewhere.
-ghost use Rattle.std.specs.Prelude.{◌≡◌, ⊤, ℕ, ◌==◌, List, length, Option, IfOk, IsTrue};
+ghost use Rattle.std.specs.Prelude.{◌≡◌, ⊤, ℕ, ◌==◌, List, length, Option, None, IfOk};
+ghost use Rattle.std.specs.Prelude.{IsTrue};
 ghost use Rattle.std.specs.Result.{result_err};
 ghost use Rattle.std.specs.List.{slice_get};
 ghost use Rattle.std.specs.Option.{option_map};
@@ -50,6 +51,18 @@ impl<'a, T: ZvKind, F: VarZeroVecFormat> VarZeroLengthlessSlice<'a, T, F> {
         match VarZeroVecComponents::parse_bytes_with_length(len, bytes) {
             Ok(parts) => Ok(VarZeroLengthlessSlice { parts }),
             Err(_) => Err(UleError::parse(TyName::Lengthless)),
+        }
+    }
+
+    /// The list of `len` elements that bytes are known to be. It checks nothing.
+    #[inline]
+    pub fn of_valid(len: u32, bytes: &'a [u8]) -> Self
+        requires usable { IsTrue T.usable }
+        requires spells { fault_after F.W T.fault len bytes.now ≡ None }
+        ensures { lengthless_list result ≡ elements_after F.W len bytes.now }
+    {
+        VarZeroLengthlessSlice {
+            parts: VarZeroVecComponents::of_valid(len, bytes),
         }
     }
 

@@ -1,0 +1,12 @@
+//! Records: several elements of any lengths as one, each of a kind of its own.
+#![tactic(auto)]
+
+mod any;
+mod fields;
+mod kinds;
+mod record;
+
+pub use any::AnyBytes;
+pub use fields::MultiFieldsULE;
+pub use kinds::{End, Field, FieldKinds, FieldOrders};
+pub use record::{RecordULE, Tuple2VarULE};

@@ -1,0 +1,91 @@
+// Records whose fields have kinds.
+ghost use Rattle.std.specs.Prelude.{◌≡◌, ℕ, ◌==◌, Bool, ◌&&◌, List, length, None, IsTrue};
+ghost use Rattle.std.specs.Result.{result_err};
+ghost use Rattle.std.specs.Cmp.{on_total};
+ghost use Rattle.std.specs.Ordering.{on};
+ghost use Rattle.zv_var.specs.Views.{lengthless_list};
+ghost use Rattle.zv_multi.specs.Records.{field_at, fields_order, record_fault};
+ghost use Rattle.zv_ule.specs.Fixed.{is_width};
+ghost use Rattle.zv_ule.specs.Views.{element_of};
+ghost use Rattle.zv_ule.specs.declared.error.TyName.TheVariants.{MultiFields};
+ghost use Rattle.zv_var.specs.Format.{elements_after};
+
+use crate::any::AnyBytes;
+use crate::fields::{MultiFieldsULE, field_view};
+use crate::kinds::{End, Field, FieldKinds, FieldOrders};
+use std::cmp::Ordering;
+use std::marker::PhantomData;
+use std::sync::ledger::Ledger;
+use zv_ule::{Steps, TyName, UleError, VarRef, VarULE, VarZeroVecFormat, ZvKind, ZvOrd};
+use zv_var::VarZeroLengthlessSlice;
+
+/// The kind of records of `LEN` fields, which have the kinds `K` in turn.
+pub struct RecordULE<const LEN: usize, K: FieldKinds, F: VarZeroVecFormat> {
+    of: PhantomData<(K, F)>,
+}
+
+/// Records of a field of kind `A` and one of kind `B`.
+pub type Tuple2VarULE<A, B, F> = RecordULE<2, Field<A, Field<B, End>>, F>;
+
+impl<const LEN: usize, K: FieldKinds, F: VarZeroVecFormat> ZvKind for RecordULE<LEN, K, F> {
+    const TY: TyName = TyName::MultiFields;
+
+    ghost TY = { MultiFields };
+
+    ghost usable = { K.usable && (is_width LEN && (length K.faults == LEN)) };
+
+    ghost fault = { record_fault F.W LEN K.faults };
+
+    #[tactic(auto, using(zv_var::proofs::Lists::counts))]
+    fn check(bytes: &[u8]) -> Result<(), UleError> {
+        let record = VarRef::<'_, MultiFieldsULE<LEN, F>>::new(bytes)?;
+        K::check_from(MultiFieldsULE::fields(record), 0)
+    }
+}
+
+impl<const LEN: usize, K: FieldKinds, F: VarZeroVecFormat> VarULE for RecordULE<LEN, K, F> {}
+
+impl<const LEN: usize, K: FieldOrders, F: VarZeroVecFormat> ZvOrd for RecordULE<LEN, K, F> {
+    ghost cmp = { on (elements_after F.W LEN) (fields_order K.orders 0) };
+
+    #[tactic(auto, using(zv_var::proofs::Lists::counts))]
+    #[inline]
+    fn compare<L: Ledger>(a: &[u8], b: &[u8], steps: &mut Steps<L>) -> Ordering {
+        steps.tick();
+        let left = VarRef::<'_, MultiFieldsULE<LEN, F>>::of_valid(a);
+        let right = VarRef::<'_, MultiFieldsULE<LEN, F>>::of_valid(b);
+        K::compare_from(
+            MultiFieldsULE::fields(left),
+            MultiFieldsULE::fields(right),
+            0,
+        )
+    }
+
+    ghost total = { on_total (elements_after F.W LEN) (K.total 0) };
+}
+
+impl<const LEN: usize, K: FieldKinds, F: VarZeroVecFormat> RecordULE<LEN, K, F> {
+    /// The record without the kinds of its fields. It reads no byte.
+    #[inline]
+    pub fn as_fields<'b>(view: VarRef<'b, Self>) -> VarRef<'b, MultiFieldsULE<LEN, F>>
+        ensures { element_of result ≡ element_of view.entry }
+    {
+        VarRef::of_valid(view.as_bytes())
+    }
+}
+
+impl<const LEN: usize, A: ZvKind, R: FieldKinds, F: VarZeroVecFormat> RecordULE<
+    LEN,
+    Field<A, R>,
+    F,
+> {
+    /// The first field.
+    #[tactic(auto, using(zv_var::proofs::Lists::counts))]
+    #[inline]
+    pub fn a<'b>(view: VarRef<'b, Self>) -> VarRef<'b, A>
+        ensures { element_of result ≡
+            field_at (elements_after F.W LEN (element_of view.entry)) 0 }
+    {
+        field_view::<A, F>(MultiFieldsULE::fields(RecordULE::as_fields(view)), 0)
+    }
+}
