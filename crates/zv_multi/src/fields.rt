@@ -1,8 +1,9 @@
 // Records of byte strings: where their fields lie.
 ghost use Rattle.std.specs.Prelude.{◌≡◌, ℕ, ◌+◌, ◌-◌, ◌*◌, ◌^◌, ◌<◌, List, ◌++◌, length, map, None};
-ghost use Rattle.std.specs.Prelude.{Some, drop, flat_map, IsTrue};
+ghost use Rattle.std.specs.Prelude.{Some, drop, flat_map, sum, IsTrue};
 ghost use Rattle.std.specs.Result.{result_err};
-ghost use Rattle.zv_multi.specs.Records.{encoded_len, field_at, offsets, shape_fault};
+ghost use Rattle.zv_multi.specs.Records.{encoded_len, field_at, offsets, offsets_from};
+ghost use Rattle.zv_multi.specs.Records.{shape_fault};
 ghost use Rattle.zv_ule.specs.Bytes.{le};
 ghost use Rattle.zv_ule.specs.Fixed.{is_width};
 ghost use Rattle.zv_ule.specs.Views.{element_of};
@@ -98,14 +99,25 @@ impl<const LEN: usize, F: VarZeroVecFormat> MultiFieldsULE<LEN, F> {
         ensures starts { output.new ≡ flat_map (le F.W) (offsets lengths.entry)
             ++ drop (F.W * (LEN - 1)) output.old }
     {
-        let width = F::W;
-        let mut at = 0;
-        let mut start = 0;
-        for index in 0..LEN.saturating_sub(1) {
-            start += lengths[index];
-            write_start::<F>(start, &mut output[at..at + width]);
-            at += width;
-        }
+        let [first, others @ ..] = lengths.as_slice() else {
+            return;
+        };
+        let (starts, _) = output.split_at_mut(F::W * others.len());
+        write_starts::<F>(*first, others, starts);
+    }
+}
+
+/// Writes where fields of these lengths start, the first of them at a place, over the whole of
+/// `out`.
+fn write_starts<F: VarZeroVecFormat>(start: usize, lengths: &[usize], out: &mut [u8])
+    requires small { start + sum lengths.now < 256 ^ F.W }
+    requires whole { length out.old ≡ F.W * length lengths.now }
+    ensures { out.new ≡ flat_map (le F.W) (offsets_from start lengths.now) }
+{
+    if let [first, others @ ..] = lengths {
+        let (field, rest) = out.split_at_mut(F::W);
+        write_start::<F>(start, field);
+        write_starts::<F>(start + *first, others, rest);
     }
 }
 
