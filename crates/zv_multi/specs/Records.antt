@@ -1,7 +1,7 @@
 -- Records: so many fields one after another, behind the starts of all but the first. w is the width
 -- of a start in bytes, and n is how many fields there are.
-use Rattle.std.specs.Prelude.{ℕ, ◌+◌, ◌-◌, ◌*◌, ◌^◌, Bool, ◌&&◌, List, [], ◌∷◌, length, map, sum}
-use Rattle.std.specs.Prelude.{Option, Some, None, is_some, nat_lt, slice_index_or}
+use Rattle.std.specs.Prelude.{ℕ, ◌+◌, ◌-◌, ◌*◌, ◌^◌, Bool, List, [], ◌∷◌, length, map, sum}
+use Rattle.std.specs.Prelude.{Option, Some, None, nat_lt, slice_index_or}
 use Rattle.std.specs.Prelude.{if◌then◌else◌}
 use Rattle.std.specs.List.{list_all}
 use Rattle.std.specs.Option.{option_or}
@@ -56,6 +56,6 @@ abbrev pub offsets : List ℕ → List ℕ
 offsets [] = []
 offsets (l ∷ ls) = offsets_from l ls
 
--- each value has a spelling, and the spellings are a record
-abbrev pub record_fits : ℕ → List Bool → List (List ℕ) → Bool
-record_fits w fits xs = list_all (λ b. b) fits && is_some (encoded_len w (map length xs))
+-- how many bytes values take as a record, if each has a spelling and the record is short enough
+abbrev pub record_len : ℕ → List Bool → List (List ℕ) → Option ℕ
+record_len w fits xs = if list_all (λ b. b) fits then encoded_len w (map length xs) else None

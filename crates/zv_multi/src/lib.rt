@@ -5,8 +5,10 @@ mod any;
 mod fields;
 mod kinds;
 mod record;
+mod values;
 
 pub use any::AnyBytes;
 pub use fields::MultiFieldsULE;
 pub use kinds::{End, Field, FieldKinds, FieldOrders};
 pub use record::{RecordULE, Tuple2VarULE};
+pub use values::FieldValues;
