@@ -40,13 +40,14 @@ all_valid (x ∷ xs) = (refl, all_valid xs)
 pub fitting : (w : ℕ) (fits : List Bool) (xs : List (List ℕ)) → is_some (record_len w fits xs) ≡ true → record_len w fits xs ≡ Some (length (lengthless w xs))
 fitting w fits xs h = let l = length-lengthless w xs in let n = length-map xs length in grind arith
 
--- n values that take m bytes, and how long their spellings are
-module _ (w n m : ℕ) (fits : List Bool) (xs : List (List ℕ)) (ls : List ℕ) (is : ls ≡ map length xs) (many : length ls ≡ n) (fit : record_len w fits xs ≡ Some m) where
+-- n values that fit, and how long their spellings are
+module _ (w n : ℕ) (fits : List Bool) (xs : List (List ℕ)) (ls : List ℕ) (is : ls ≡ map length xs) (many : length ls ≡ n)
+    (fit : is_some (record_len w fits xs) ≡ true) where
   count_is : length xs ≡ n
   count_is = sym (length-map xs length) ∙ sym (ap length is) ∙ many
 
-  pub spelled_len : m - w * (n - 1) ≡ length (concat xs)
-  spelled_len = let c = count_is in let l = length-concat xs in let k = length-map xs length in grind arith
+  pub spelled_len : length (lengthless w xs) - w * (n - 1) ≡ length (concat xs)
+  spelled_len = let c = count_is in let l = length-lengthless w xs in let k = length-concat xs in rw (← c) (omega arith)
 
   -- the starts before the spellings
   pub written : (out rest front back : List ℕ) → out ≡ flat_map (le w) (offsets ls) ++ rest → front ≡ take (w * (n - 1)) out → back ≡ concat xs →

@@ -5,6 +5,7 @@ mod any;
 mod fields;
 mod kinds;
 mod record;
+mod tuples;
 mod values;
 
 pub use any::AnyBytes;

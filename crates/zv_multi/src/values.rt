@@ -1,6 +1,6 @@
 // Values that are written as the fields of a record: one value, and the values behind it.
 ghost use Rattle.std.specs.Prelude.{◌≡◌, ℕ, ◌==◌, ◌^◌, ◌<◌, Bool, true, ◌&&◌, List, [], ◌∷◌, ◌++◌, length, map};
-ghost use Rattle.std.specs.Prelude.{Some, None, IsTrue};
+ghost use Rattle.std.specs.Prelude.{None, is_some, IsTrue, IfSome};
 ghost use Rattle.std.specs.List.{concat, list_all};
 ghost use Rattle.zv_multi.specs.Records.{fields_fault, record_fault, record_len};
 ghost use Rattle.zv_ule.specs.Fixed.{is_width};
@@ -83,6 +83,22 @@ impl<A: ZvKind, R: FieldKinds, X: EncodeAsVarULE<A>, V: FieldValues<R>> FieldVal
     }
 }
 
+/// How long the spellings of values are.
+fn lengths_of<const LEN: usize, K: FieldKinds, V: FieldValues<K>, F: VarZeroVecFormat>(
+    values: &V,
+) -> [usize; LEN]
+    requires usable { IsTrue K.usable }
+    requires count { IsTrue (is_width LEN && (length K.faults == LEN)) }
+    requires fit { IsTrue (list_all (λ b. b) (V.fits values.now)) }
+    ensures lengths { result ≡ map length (V.spellings values.now) }
+    ensures spells { IsTrue (is_some (record_len F.W (V.fits values.now) (V.spellings values.now)))
+        → record_fault F.W LEN K.faults (lengthless F.W (V.spellings values.now)) ≡ None }
+{
+    let mut lengths = [0; LEN];
+    values.measure(&mut lengths);
+    lengths
+}
+
 /// How many bytes values take as a record, or `None` where one has no spelling or the record is too
 /// long.
 pub(crate) fn record_len<const LEN: usize, K: FieldKinds, V: FieldValues<K>, F: VarZeroVecFormat>(
@@ -90,31 +106,50 @@ pub(crate) fn record_len<const LEN: usize, K: FieldKinds, V: FieldValues<K>, F: 
 ) -> Option<usize>
     requires usable { IsTrue K.usable }
     requires count { IsTrue (is_width LEN && (length K.faults == LEN)) }
-    ensures { result ≡ record_len F.W (V.fits values.now) (V.spellings values.now) }
+    ensures len { result ≡ record_len F.W (V.fits values.now) (V.spellings values.now) }
+    ensures spells { IfSome result (λ _. record_fault F.W LEN K.faults
+        (lengthless F.W (V.spellings values.now)) ≡ None) }
 {
     if !values.all_fit() {
         return None;
     }
-    let mut lengths = [0; LEN];
-    values.measure(&mut lengths);
+    let lengths = lengths_of::<LEN, K, V, F>(values);
     MultiFieldsULE::<LEN, F>::compute_encoded_len_for(lengths)
 }
 
-/// Writes values as a record.
-#[tactic(auto, using(crate::proofs::Written::written))]
+/// How many bytes values that fit take as a record.
+#[tactic(auto, using(crate::proofs::Written::fitting))]
+pub(crate) fn fitting_len<const LEN: usize, K: FieldKinds, V: FieldValues<K>, F: VarZeroVecFormat>(
+    values: &V,
+) -> usize
+    requires usable { IsTrue K.usable }
+    requires count { IsTrue (is_width LEN && (length K.faults == LEN)) }
+    requires fit { IsTrue (is_some (record_len F.W (V.fits values.now) (V.spellings values.now))) }
+    ensures len { result ≡ length (lengthless F.W (V.spellings values.now)) }
+    ensures spells { record_fault F.W LEN K.faults (lengthless F.W (V.spellings values.now))
+        ≡ None }
+{
+    match record_len::<LEN, K, V, F>(values) {
+        Some(len) => len,
+        None => unreachable!(),
+    }
+}
+
+/// Writes values that fit as a record, over the whole of `out`.
+#[tactic(auto, using(crate::proofs::Written::fitting))]
 pub(crate) fn write_record<const LEN: usize, K: FieldKinds, V: FieldValues<K>, F: VarZeroVecFormat>(
     values: &V,
     out: &mut [u8],
 )
     requires usable { IsTrue K.usable }
     requires count { IsTrue (is_width LEN && (length K.faults == LEN)) }
-    requires len { record_len F.W (V.fits values.now) (V.spellings values.now)
-        ≡ Some (length out.old) }
+    requires fit { IsTrue (is_some (record_len F.W (V.fits values.now) (V.spellings values.now))) }
+    requires whole { length out.old ≡ length (lengthless F.W (V.spellings values.now)) }
     ensures written { out.new ≡ lengthless F.W (V.spellings values.now) }
-    ensures spells { record_fault F.W LEN K.faults (lengthless F.W (V.spellings values.now)) ≡ None }
+    ensures spells { record_fault F.W LEN K.faults (lengthless F.W (V.spellings values.now))
+        ≡ None }
 {
-    let mut lengths = [0; LEN];
-    values.measure(&mut lengths);
+    let lengths = lengths_of::<LEN, K, V, F>(values);
     MultiFieldsULE::<LEN, F>::new_from_lengths_partially_initialized(lengths, out);
     let (_, spellings) = out.split_at_mut(F::W * (LEN - 1));
     values.write(spellings);
