@@ -1,6 +1,6 @@
 -- Records: so many fields one after another, behind the starts of all but the first. w is the width
 -- of a start in bytes, and n is how many fields there are.
-use Rattle.std.specs.Prelude.{ℕ, ◌+◌, ◌-◌, ◌*◌, ◌^◌, Bool, List, [], ◌∷◌, length, map, sum}
+use Rattle.std.specs.Prelude.{ℕ, ◌==◌, ◌+◌, ◌-◌, ◌*◌, ◌^◌, Bool, List, [], ◌∷◌, length, map, sum}
 use Rattle.std.specs.Prelude.{Option, Some, None, nat_lt, slice_index_or}
 use Rattle.std.specs.Prelude.{if◌then◌else◌}
 use Rattle.std.specs.List.{list_all}
@@ -8,9 +8,17 @@ use Rattle.std.specs.Option.{option_or}
 use Rattle.std.specs.Ordering.{ordering_then}
 use Rattle.std.specs.declared.cmp.Ordering.{Ordering}
 use Rattle.std.specs.declared.cmp.Ordering.TheVariants.{Equal}
+use Rattle.zv_ule.specs.declared.error.TyName.{TyName}
+use Rattle.zv_ule.specs.declared.error.TyName.TheVariants.{MultiFields, Tuple2Var, Tuple3Var}
+use Rattle.zv_ule.specs.declared.error.TyName.TheVariants.{Tuple4Var, Tuple5Var, Tuple6Var}
 use Rattle.zv_ule.specs.declared.error.UleError.{UleError}
 use Rattle.zv_var.specs.Format.{elements_after, fault_after}
 use Rattle.zv_var.specs.Nested.{lengthless_fault}
+
+-- the name of the kind of records of n fields
+abbrev pub record_name : ℕ → TyName
+record_name n = if n == 2 then Tuple2Var else if n == 3 then Tuple3Var else if n == 4 then Tuple4Var
+    else if n == 5 then Tuple5Var else if n == 6 then Tuple6Var else MultiFields
 
 -- every byte string is a field
 abbrev pub no_fault : List ℕ → Option UleError

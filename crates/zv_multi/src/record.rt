@@ -4,10 +4,9 @@ ghost use Rattle.std.specs.Result.{result_err};
 ghost use Rattle.std.specs.Cmp.{on_total};
 ghost use Rattle.std.specs.Ordering.{on};
 ghost use Rattle.zv_var.specs.Views.{lengthless_list};
-ghost use Rattle.zv_multi.specs.Records.{field_at, fields_order, record_fault};
+ghost use Rattle.zv_multi.specs.Records.{field_at, fields_order, record_fault, record_name};
 ghost use Rattle.zv_ule.specs.Fixed.{is_width};
 ghost use Rattle.zv_ule.specs.Views.{element_of};
-ghost use Rattle.zv_ule.specs.declared.error.TyName.TheVariants.{MultiFields};
 ghost use Rattle.zv_var.specs.Format.{elements_after};
 
 use crate::any::AnyBytes;
@@ -24,13 +23,27 @@ pub struct RecordULE<const LEN: usize, K: FieldKinds, F: VarZeroVecFormat> {
     of: PhantomData<(K, F)>,
 }
 
+/// The name of the kinds of records of so many fields.
+const fn name_of(count: usize) -> TyName
+    ensures { result ≡ record_name count }
+{
+    match count {
+        2 => TyName::Tuple2Var,
+        3 => TyName::Tuple3Var,
+        4 => TyName::Tuple4Var,
+        5 => TyName::Tuple5Var,
+        6 => TyName::Tuple6Var,
+        _ => TyName::MultiFields,
+    }
+}
+
 /// Records of a field of kind `A` and one of kind `B`.
 pub type Tuple2VarULE<A, B, F> = RecordULE<2, Field<A, Field<B, End>>, F>;
 
 impl<const LEN: usize, K: FieldKinds, F: VarZeroVecFormat> ZvKind for RecordULE<LEN, K, F> {
-    const TY: TyName = TyName::MultiFields;
+    const TY: TyName = name_of(LEN);
 
-    ghost TY = { MultiFields };
+    ghost TY = { record_name LEN };
 
     ghost usable = { K.usable && (is_width LEN && (length K.faults == LEN)) };
 
@@ -86,6 +99,104 @@ impl<const LEN: usize, A: ZvKind, R: FieldKinds, F: VarZeroVecFormat> RecordULE<
         ensures { element_of result ≡
             field_at (elements_after F.W LEN (element_of view.entry)) 0 }
     {
-        field_view::<A, F>(MultiFieldsULE::fields(RecordULE::as_fields(view)), 0)
+        field_view(MultiFieldsULE::fields(RecordULE::as_fields(view)), 0)
+    }
+}
+
+impl<const LEN: usize, A: ZvKind, B: ZvKind, R: FieldKinds, F: VarZeroVecFormat> RecordULE<
+    LEN,
+    Field<A, Field<B, R>>,
+    F,
+> {
+    /// The second field.
+    #[tactic(auto, using(zv_var::proofs::Lists::counts))]
+    #[inline]
+    pub fn b<'b>(view: VarRef<'b, Self>) -> VarRef<'b, B>
+        ensures { element_of result ≡
+            field_at (elements_after F.W LEN (element_of view.entry)) 1 }
+    {
+        field_view(MultiFieldsULE::fields(RecordULE::as_fields(view)), 1)
+    }
+}
+
+impl<
+    const LEN: usize,
+    A: ZvKind,
+    B: ZvKind,
+    C: ZvKind,
+    R: FieldKinds,
+    F: VarZeroVecFormat,
+> RecordULE<LEN, Field<A, Field<B, Field<C, R>>>, F> {
+    /// The third field.
+    #[tactic(auto, using(zv_var::proofs::Lists::counts))]
+    #[inline]
+    pub fn c<'b>(view: VarRef<'b, Self>) -> VarRef<'b, C>
+        ensures { element_of result ≡
+            field_at (elements_after F.W LEN (element_of view.entry)) 2 }
+    {
+        field_view(MultiFieldsULE::fields(RecordULE::as_fields(view)), 2)
+    }
+}
+
+impl<
+    const LEN: usize,
+    A: ZvKind,
+    B: ZvKind,
+    C: ZvKind,
+    D: ZvKind,
+    R: FieldKinds,
+    F: VarZeroVecFormat,
+> RecordULE<LEN, Field<A, Field<B, Field<C, Field<D, R>>>>, F> {
+    /// The fourth field.
+    #[tactic(auto, using(zv_var::proofs::Lists::counts))]
+    #[inline]
+    pub fn d<'b>(view: VarRef<'b, Self>) -> VarRef<'b, D>
+        ensures { element_of result ≡
+            field_at (elements_after F.W LEN (element_of view.entry)) 3 }
+    {
+        field_view(MultiFieldsULE::fields(RecordULE::as_fields(view)), 3)
+    }
+}
+
+impl<
+    const LEN: usize,
+    A: ZvKind,
+    B: ZvKind,
+    C: ZvKind,
+    D: ZvKind,
+    E: ZvKind,
+    R: FieldKinds,
+    F: VarZeroVecFormat,
+> RecordULE<LEN, Field<A, Field<B, Field<C, Field<D, Field<E, R>>>>>, F> {
+    /// The fifth field.
+    #[tactic(auto, using(zv_var::proofs::Lists::counts))]
+    #[inline]
+    pub fn e<'b>(view: VarRef<'b, Self>) -> VarRef<'b, E>
+        ensures { element_of result ≡
+            field_at (elements_after F.W LEN (element_of view.entry)) 4 }
+    {
+        field_view(MultiFieldsULE::fields(RecordULE::as_fields(view)), 4)
+    }
+}
+
+impl<
+    const LEN: usize,
+    A: ZvKind,
+    B: ZvKind,
+    C: ZvKind,
+    D: ZvKind,
+    E: ZvKind,
+    G: ZvKind,
+    R: FieldKinds,
+    F: VarZeroVecFormat,
+> RecordULE<LEN, Field<A, Field<B, Field<C, Field<D, Field<E, Field<G, R>>>>>>, F> {
+    /// The sixth field.
+    #[tactic(auto, using(zv_var::proofs::Lists::counts))]
+    #[inline]
+    pub fn f<'b>(view: VarRef<'b, Self>) -> VarRef<'b, G>
+        ensures { element_of result ≡
+            field_at (elements_after F.W LEN (element_of view.entry)) 5 }
+    {
+        field_view(MultiFieldsULE::fields(RecordULE::as_fields(view)), 5)
     }
 }
