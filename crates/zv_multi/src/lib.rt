@@ -11,5 +11,5 @@ mod values;
 pub use any::AnyBytes;
 pub use fields::MultiFieldsULE;
 pub use kinds::{End, Field, FieldKinds, FieldOrders};
-pub use record::{RecordULE, Tuple2VarULE};
+pub use record::{RecordULE, Tuple2VarULE, Tuple3VarULE, Tuple4VarULE, Tuple5VarULE, Tuple6VarULE};
 pub use values::FieldValues;

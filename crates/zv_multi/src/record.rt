@@ -37,8 +37,28 @@ const fn name_of(count: usize) -> TyName
     }
 }
 
-/// Records of a field of kind `A` and one of kind `B`.
+/// The kind of records of two fields.
 pub type Tuple2VarULE<A, B, F> = RecordULE<2, Field<A, Field<B, End>>, F>;
+
+/// The kind of records of three fields.
+pub type Tuple3VarULE<A, B, C, F> = RecordULE<3, Field<A, Field<B, Field<C, End>>>, F>;
+
+/// The kind of records of four fields.
+pub type Tuple4VarULE<A, B, C, D, F> = RecordULE<4, Field<A, Field<B, Field<C, Field<D, End>>>>, F>;
+
+/// The kind of records of five fields.
+pub type Tuple5VarULE<A, B, C, D, E, F> = RecordULE<
+    5,
+    Field<A, Field<B, Field<C, Field<D, Field<E, End>>>>>,
+    F,
+>;
+
+/// The kind of records of six fields.
+pub type Tuple6VarULE<A, B, C, D, E, G, F> = RecordULE<
+    6,
+    Field<A, Field<B, Field<C, Field<D, Field<E, Field<G, End>>>>>>,
+    F,
+>;
 
 impl<const LEN: usize, K: FieldKinds, F: VarZeroVecFormat> ZvKind for RecordULE<LEN, K, F> {
     const TY: TyName = name_of(LEN);
