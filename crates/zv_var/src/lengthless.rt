@@ -1,8 +1,8 @@
 // A list in a format whose count stands elsewhere.
-ghost use Rattle.std.specs.Prelude.{◌≡◌, ⊤, ℕ, ◌==◌, List, length, Option, None, IfOk};
+ghost use Rattle.std.specs.Prelude.{◌≡◌, ⊤, ℕ, ◌==◌, ◌≤◌, List, take, length, Option, None, IfOk};
 ghost use Rattle.std.specs.Prelude.{IsTrue};
 ghost use Rattle.std.specs.Result.{result_err};
-ghost use Rattle.std.specs.List.{slice_get};
+ghost use Rattle.std.specs.List.{concat, slice_get};
 ghost use Rattle.std.specs.Option.{option_map};
 ghost use Rattle.zv_var.specs.Format.{elements_after, fault_after};
 ghost use Rattle.zv_var.specs.Nested.{lengthless_fault};
@@ -80,5 +80,13 @@ impl<'a, T: ZvKind, F: VarZeroVecFormat> VarZeroLengthlessSlice<'a, T, F> {
         ensures { option_map element_of result ≡ slice_get (lengthless_list self.entry) idx }
     {
         self.parts.get(idx)
+    }
+    /// Where the element at a place starts, as [`VarZeroVecComponents::offset`] says.
+    #[inline]
+    pub fn offset(self, idx: usize) -> usize
+        requires { idx ≤ length (lengthless_list self) }
+        ensures { result ≡ length (concat (take idx (lengthless_list self.entry))) }
+    {
+        self.parts.offset(idx)
     }
 }
