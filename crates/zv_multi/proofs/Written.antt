@@ -18,21 +18,21 @@ offsets_from_lengths : (n : ℕ) (xs : List (List ℕ)) → offsets_from n (map 
 offsets_from_lengths n [] = refl
 offsets_from_lengths n (x ∷ xs) = ap (λ (l : List ℕ). n ∷ l) (offsets_from_lengths (n + length x) xs)
 
-offsets_of_lengths : (xs : List (List ℕ)) → offsets (map length xs) ≡ starts xs
+pub offsets_of_lengths : (xs : List (List ℕ)) → offsets (map length xs) ≡ starts xs
 offsets_of_lengths [] = refl
 offsets_of_lengths (x ∷ xs) = offsets_from_lengths (length x) xs
 
-length-concat : (xs : List (List ℕ)) → length (concat xs) ≡ sum (map length xs)
+pub length-concat : (xs : List (List ℕ)) → length (concat xs) ≡ sum (map length xs)
 length-concat xs = ap length (concat_is xs) ∙ length-flat_map (λ x. x) xs ∙ sym (sum-map length xs)
 
-length-starts : (xs : List (List ℕ)) → length (starts xs) ≡ length xs - 1
+pub length-starts : (xs : List (List ℕ)) → length (starts xs) ≡ length xs - 1
 length-starts [] = refl
 length-starts (x ∷ xs) = length-starts_from (length x) xs ∙ omega arith
 
 pub length-lengthless : (w : ℕ) (xs : List (List ℕ)) → length (lengthless w xs) ≡ w * (length xs - 1) + sum (map length xs)
 length-lengthless w xs = simp (length-append, length-flat_map-le, length-starts, length-concat) refl
 
-all_valid : (xs : List (List ℕ)) → AreValid no_fault xs
+pub all_valid : (xs : List (List ℕ)) → AreValid no_fault xs
 all_valid [] = tt
 all_valid (x ∷ xs) = (refl, all_valid xs)
 

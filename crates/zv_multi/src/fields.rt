@@ -1,6 +1,6 @@
 // Records of byte strings: where their fields lie.
-ghost use Rattle.std.specs.Prelude.{◌≡◌, ℕ, ◌+◌, ◌-◌, ◌*◌, ◌^◌, ◌<◌, List, ◌++◌, length, map, None};
-ghost use Rattle.std.specs.Prelude.{Some, drop, flat_map, sum, IsTrue};
+ghost use Rattle.std.specs.Prelude.{◌≡◌, ℕ, ◌+◌, ◌-◌, ◌*◌, ◌^◌, ◌<◌, ◌≤◌, List, ◌++◌, length, map, None};
+ghost use Rattle.std.specs.Prelude.{Some, drop, flat_map, slice_set, sum, take, IsTrue};
 ghost use Rattle.std.specs.Result.{result_err};
 ghost use Rattle.zv_multi.specs.Records.{encoded_len, field_at, offsets, offsets_from};
 ghost use Rattle.zv_multi.specs.Records.{shape_fault};
@@ -9,11 +9,16 @@ ghost use Rattle.zv_ule.specs.Fixed.{is_width};
 ghost use Rattle.zv_ule.specs.Views.{element_of};
 ghost use Rattle.zv_ule.specs.declared.error.TyName.TheVariants.{MultiFields};
 ghost use Rattle.zv_var.specs.Format.{elements_after};
+ghost use Rattle.zv_var.specs.Laws.{HasStarts};
+ghost use Rattle.zv_var.specs.Serialize.{lengthless};
 ghost use Rattle.zv_var.specs.Views.{lengthless_list};
+ghost use Rattle.std.specs.List.{concat};
 
 use crate::any::AnyBytes;
 use std::marker::PhantomData;
-use zv_ule::{TyName, UleError, VarRef, VarULE, VarZeroVecFormat, ZvKind, write_start};
+use zv_ule::{
+    EncodeAsVarULE, TyName, UleError, VarRef, VarULE, VarZeroVecFormat, ZvKind, write_start,
+};
 use zv_var::VarZeroLengthlessSlice;
 
 /// The kind of records of `LEN` fields of any bytes.
@@ -105,6 +110,44 @@ impl<const LEN: usize, F: VarZeroVecFormat> MultiFieldsULE<LEN, F> {
         let (starts, _) = output.split_at_mut(F::W * others.len());
         write_starts::<F>(*first, others, starts);
     }
+
+    /// Writes a value over a field of as many bytes.
+    pub fn set_field_at<T: VarULE, A: EncodeAsVarULE<T>>(idx: usize, value: &A, output: &mut [u8])
+        requires usable { IsTrue T.usable }
+        requires count { IsTrue (is_width LEN) }
+        requires place { idx < LEN }
+        requires shape { shape_fault F.W LEN output.old ≡ None }
+        requires fits { IsTrue (A.fits value.now) }
+        requires whole { length (A.spelling value.now)
+            ≡ length (field_at (elements_after F.W LEN output.old) idx) }
+        ensures fields { elements_after F.W LEN output.new
+            ≡ slice_set (elements_after F.W LEN output.old) idx (A.spelling value.now) }
+        ensures starts { take (F.W * (LEN - 1)) output.new ≡ take (F.W * (LEN - 1)) output.old }
+        ensures shape { shape_fault F.W LEN output.new ≡ None }
+        ensures spells { T.fault (A.spelling value.now) ≡ None }
+    {
+        let (start, end) = span::<LEN, F>(idx, output);
+        value.encode_var_ule_write(&mut output[start..end]);
+    }
+}
+
+/// Where a field starts and ends in a record.
+#[tactic(auto, using(zv_var::proofs::Lists::counts))]
+#[inline]
+fn span<const LEN: usize, F: VarZeroVecFormat>(idx: usize, record: &[u8]) -> (usize, usize)
+    requires count { IsTrue (is_width LEN) }
+    requires place { idx < LEN }
+    requires shape { shape_fault F.W LEN record.now ≡ None }
+    ensures start { result.0 ≡ F.W * (LEN - 1)
+        + length (concat (take idx (elements_after F.W LEN record.now))) }
+    ensures end { result.1 ≡ result.0 + length (field_at (elements_after F.W LEN record.now) idx) }
+    ensures within { result.1 ≤ length record.now }
+    ensures written { record.now ≡ lengthless F.W (elements_after F.W LEN record.now) }
+    ensures numbered { HasStarts F.W (elements_after F.W LEN record.now) }
+{
+    let fields = VarZeroLengthlessSlice::<'_, AnyBytes, F>::of_valid(LEN as u32, record);
+    let start = F::W * (LEN - 1) + fields.offset(idx);
+    (start, start + field_bytes(fields, idx).len())
 }
 
 /// Writes where fields of these lengths start, the first of them at a place, over the whole of
