@@ -1,7 +1,8 @@
 // A list in a format whose count stands elsewhere.
-ghost use Rattle.std.specs.Prelude.{◌≡◌, ⊤, ℕ, ◌==◌, List, length, Option, IfOk, IsTrue};
+ghost use Rattle.std.specs.Prelude.{◌≡◌, ⊤, ℕ, ◌==◌, ◌≤◌, List, take, length, Option, None, IfOk};
+ghost use Rattle.std.specs.Prelude.{IsTrue};
 ghost use Rattle.std.specs.Result.{result_err};
-ghost use Rattle.std.specs.List.{slice_get};
+ghost use Rattle.std.specs.List.{concat, slice_get};
 ghost use Rattle.std.specs.Option.{option_map};
 ghost use Rattle.zv_var.specs.Format.{elements_after, fault_after};
 ghost use Rattle.zv_var.specs.Nested.{lengthless_fault};
@@ -53,6 +54,18 @@ impl<'a, T: ZvKind, F: VarZeroVecFormat> VarZeroLengthlessSlice<'a, T, F> {
         }
     }
 
+    /// The list of `len` elements that bytes are known to be. It checks nothing.
+    #[inline]
+    pub fn of_valid(len: u32, bytes: &'a [u8]) -> Self
+        requires usable { IsTrue T.usable }
+        requires spells { fault_after F.W T.fault len bytes.now ≡ None }
+        ensures { lengthless_list result ≡ elements_after F.W len bytes.now }
+    {
+        VarZeroLengthlessSlice {
+            parts: VarZeroVecComponents::of_valid(len, bytes),
+        }
+    }
+
     /// The bytes that the list is read from, as they were given.
     #[inline]
     pub fn as_bytes(self) -> &'a [u8]
@@ -67,5 +80,13 @@ impl<'a, T: ZvKind, F: VarZeroVecFormat> VarZeroLengthlessSlice<'a, T, F> {
         ensures { option_map element_of result ≡ slice_get (lengthless_list self.entry) idx }
     {
         self.parts.get(idx)
+    }
+    /// Where the element at a place starts, as [`VarZeroVecComponents::offset`] says.
+    #[inline]
+    pub fn offset(self, idx: usize) -> usize
+        requires { idx ≤ length (lengthless_list self) }
+        ensures { result ≡ length (concat (take idx (lengthless_list self.entry))) }
+    {
+        self.parts.offset(idx)
     }
 }

@@ -1,0 +1,15 @@
+//! Records: several elements of any lengths as one, each of a kind of its own.
+#![tactic(auto)]
+
+mod any;
+mod fields;
+mod kinds;
+mod record;
+mod tuples;
+mod values;
+
+pub use any::AnyBytes;
+pub use fields::MultiFieldsULE;
+pub use kinds::{End, Field, FieldKinds, FieldOrders};
+pub use record::{RecordULE, Tuple2VarULE, Tuple3VarULE, Tuple4VarULE, Tuple5VarULE, Tuple6VarULE};
+pub use values::FieldValues;
