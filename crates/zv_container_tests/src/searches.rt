@@ -27,6 +27,21 @@ const RANGE_SEARCHES: [RangeSearch; 6] = [
     (44, 5, 2, None),
 ];
 
+// The numbers 1, 1, 1, 1, 2 and 2.
+const EQUAL_NUMBERS: &[u8] = &[1, 0, 1, 0, 1, 0, 1, 0, 2, 0, 2, 0];
+
+// The middle is the upper of two, and neither half has it.
+const SEARCHES_AMONG_EQUALS: [RangeSearch; 8] = [
+    (1, 0, 6, Some(Ok(3))),
+    (2, 0, 6, Some(Ok(5))),
+    (2, 0, 5, Some(Ok(4))),
+    (1, 2, 6, Some(Ok(1))),
+    (1, 3, 6, Some(Ok(0))),
+    (1, 0, 4, Some(Ok(2))),
+    (1, 0, 2, Some(Ok(1))),
+    (2, 0, 4, Some(Err(4))),
+];
+
 // The searches in ranges answer so.
 fn finds_in_ranges<C: ZeroVecSearch<u16>>(rt: &impl Abort, list: &C, searches: &[RangeSearch]) {
     for (number, start, end, answer) in searches {
@@ -50,17 +65,26 @@ fn finds_in_ranges_by<C: ZeroVecSearchBy<u16>>(
     }
 }
 
-// The container of the seven numbers is searched in six ranges.
-fn is_searched_in_ranges<'a, C: MutableZeroVecLike<'a, u16>>(rt: &impl Abort) -> Result<(), Fail> {
-    let list = C::zvl_parse(SEVEN_NUMBERS)?;
-    finds_in_ranges(rt, &list, &RANGE_SEARCHES);
-    finds_in_ranges_by(rt, &list, &RANGE_SEARCHES);
+// The container of the numbers is searched in ranges.
+fn is_searched_in_ranges<'a, C: MutableZeroVecLike<'a, u16>>(
+    rt: &impl Abort,
+    numbers: &'a [u8],
+    searches: &[RangeSearch],
+) -> Result<(), Fail> {
+    let list = C::zvl_parse(numbers)?;
+    finds_in_ranges(rt, &list, searches);
+    finds_in_ranges_by(rt, &list, searches);
     Ok(())
 }
 
 #[test]
 fn a_range_is_searched(rt: HostRuntime) -> Result<(), Fail> {
-    is_searched_in_ranges::<Of<'_, u16>>(&rt)
+    is_searched_in_ranges::<Of<'_, u16>>(&rt, SEVEN_NUMBERS, &RANGE_SEARCHES)
+}
+
+#[test]
+fn a_range_of_equals_is_searched(rt: HostRuntime) -> Result<(), Fail> {
+    is_searched_in_ranges::<Of<'_, u16>>(&rt, EQUAL_NUMBERS, &SEARCHES_AMONG_EQUALS)
 }
 
 // ---- comparisons

@@ -292,6 +292,28 @@ fn values_are_found(rt: HostRuntime) -> Result<(), Fail> {
     Ok(())
 }
 
+// Both searches for a number in the list end so.
+fn is_found(rt: &impl Abort, bytes: &[u8], number: u8, place: Result<usize, usize>) {
+    match ZeroSlice::<'_, u8>::parse_bytes(bytes) {
+        Ok(list) => {
+            assert!(rt; list.binary_search(&number) == place);
+            assert!(rt; list.binary_search_by(|n| n.cmp(&number)) == place);
+        }
+        Err(_) => panic!(rt; "every byte is a number"),
+    }
+}
+
+// The middle is the upper of two, and neither half has it.
+#[test]
+fn equal_values_are_found_by_halves(rt: HostRuntime) {
+    for (number, place) in [(0, Err(0)), (1, Ok(3)), (2, Ok(5)), (3, Err(6))] {
+        is_found(&rt, &[1, 1, 1, 1, 2, 2], number, place);
+    }
+    for (count, place) in [(1, 0), (2, 1), (3, 1), (4, 2), (5, 2), (6, 3)] {
+        is_found(&rt, [7; 6].split_at(count).0, 7, Ok(place));
+    }
+}
+
 // The order of a list and another, and whether they are the same.
 fn compares<T: AsULE + Ord>(
     rt: &impl Abort,

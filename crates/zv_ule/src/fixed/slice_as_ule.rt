@@ -44,7 +44,7 @@ impl<const N: usize> EqULE for [u64; N] {}
 /// number has more than one byte that would depend on the machine, so only a slice of `u8` is.
 pub trait SliceAsULE: AsULE {
     /// Whether a slice is seen as bytes.
-    ghost is_seen: { Bool };
+    ghost is_seen: { Bool } = { false };
 
     /// The bytes that a slice is stored as, where they need no copy.
     fn slice_to_unaligned(slice: &[Self]) -> Option<&[u8]>
@@ -63,8 +63,6 @@ impl SliceAsULE for u8 {
 }
 
 impl SliceAsULE for u16 {
-    ghost is_seen = { false };
-
     #[inline]
     fn slice_to_unaligned(_slice: &[u16]) -> Option<&[u8]> {
         None
@@ -72,8 +70,6 @@ impl SliceAsULE for u16 {
 }
 
 impl SliceAsULE for u32 {
-    ghost is_seen = { false };
-
     #[inline]
     fn slice_to_unaligned(_slice: &[u32]) -> Option<&[u8]> {
         None
@@ -81,8 +77,6 @@ impl SliceAsULE for u32 {
 }
 
 impl SliceAsULE for u64 {
-    ghost is_seen = { false };
-
     #[inline]
     fn slice_to_unaligned(_slice: &[u64]) -> Option<&[u8]> {
         None
@@ -90,8 +84,6 @@ impl SliceAsULE for u64 {
 }
 
 impl SliceAsULE for u128 {
-    ghost is_seen = { false };
-
     #[inline]
     fn slice_to_unaligned(_slice: &[u128]) -> Option<&[u8]> {
         None
@@ -99,8 +91,6 @@ impl SliceAsULE for u128 {
 }
 
 impl SliceAsULE for i8 {
-    ghost is_seen = { false };
-
     #[inline]
     fn slice_to_unaligned(_slice: &[i8]) -> Option<&[u8]> {
         None
@@ -108,8 +98,6 @@ impl SliceAsULE for i8 {
 }
 
 impl SliceAsULE for i16 {
-    ghost is_seen = { false };
-
     #[inline]
     fn slice_to_unaligned(_slice: &[i16]) -> Option<&[u8]> {
         None
@@ -117,8 +105,6 @@ impl SliceAsULE for i16 {
 }
 
 impl SliceAsULE for i32 {
-    ghost is_seen = { false };
-
     #[inline]
     fn slice_to_unaligned(_slice: &[i32]) -> Option<&[u8]> {
         None
@@ -126,8 +112,6 @@ impl SliceAsULE for i32 {
 }
 
 impl SliceAsULE for i64 {
-    ghost is_seen = { false };
-
     #[inline]
     fn slice_to_unaligned(_slice: &[i64]) -> Option<&[u8]> {
         None
@@ -135,8 +119,6 @@ impl SliceAsULE for i64 {
 }
 
 impl SliceAsULE for i128 {
-    ghost is_seen = { false };
-
     #[inline]
     fn slice_to_unaligned(_slice: &[i128]) -> Option<&[u8]> {
         None
@@ -144,8 +126,6 @@ impl SliceAsULE for i128 {
 }
 
 impl SliceAsULE for bool {
-    ghost is_seen = { false };
-
     #[inline]
     fn slice_to_unaligned(_slice: &[bool]) -> Option<&[u8]> {
         None
@@ -153,8 +133,6 @@ impl SliceAsULE for bool {
 }
 
 impl SliceAsULE for NonZeroU8 {
-    ghost is_seen = { false };
-
     #[inline]
     fn slice_to_unaligned(_slice: &[NonZeroU8]) -> Option<&[u8]> {
         None
@@ -162,8 +140,6 @@ impl SliceAsULE for NonZeroU8 {
 }
 
 impl<const N: usize> SliceAsULE for [u8; N] {
-    ghost is_seen = { false };
-
     #[inline]
     fn slice_to_unaligned(_slice: &[[u8; N]]) -> Option<&[u8]> {
         None
@@ -171,8 +147,6 @@ impl<const N: usize> SliceAsULE for [u8; N] {
 }
 
 impl<const N: usize> SliceAsULE for [u16; N] {
-    ghost is_seen = { false };
-
     #[inline]
     fn slice_to_unaligned(_slice: &[[u16; N]]) -> Option<&[u8]> {
         None
@@ -180,8 +154,6 @@ impl<const N: usize> SliceAsULE for [u16; N] {
 }
 
 impl<const N: usize> SliceAsULE for [u32; N] {
-    ghost is_seen = { false };
-
     #[inline]
     fn slice_to_unaligned(_slice: &[[u32; N]]) -> Option<&[u8]> {
         None
@@ -189,8 +161,6 @@ impl<const N: usize> SliceAsULE for [u32; N] {
 }
 
 impl<const N: usize> SliceAsULE for [u64; N] {
-    ghost is_seen = { false };
-
     #[inline]
     fn slice_to_unaligned(_slice: &[[u64; N]]) -> Option<&[u8]> {
         None
