@@ -1,9 +1,11 @@
 pub mod Codable
 pub mod Common
+pub mod FieldWidths
 pub mod Gaps
 pub mod Offsets
 pub mod Placed
 pub mod Pushes
+pub mod Rewritten
 pub mod Shifts
 pub mod SizeRule
 pub mod Sizes

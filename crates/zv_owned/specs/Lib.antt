@@ -9,3 +9,4 @@ pub mod Shelves
 pub mod Size
 pub mod Splices
 pub mod Vectors
+pub mod Widths

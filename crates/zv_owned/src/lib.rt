@@ -8,6 +8,7 @@
 mod change;
 pub mod encoded;
 pub mod error;
+mod fields;
 pub mod laws;
 mod moves;
 mod nested;
@@ -18,6 +19,7 @@ pub mod shelf;
 mod size;
 mod splice;
 pub mod vector;
+mod widths;
 mod writes;
 
 pub use change::Change;

@@ -14,6 +14,7 @@ ghost use Rattle.zv_owned.specs.Size.{takes_insert, takes_replace};
 
 mod changes;
 mod counted;
+mod widths;
 
 pub use crate::change::Change;
 use crate::error::VecError;

@@ -1,8 +1,11 @@
 // A buffer of bytes that counts what is written into it.
-ghost use Rattle.std.specs.Prelude.{◌≡◌, ℕ, ◌+◌, ◌-◌, ◌<◌, ◌≤◌, [], ◌++◌, length, take, drop};
-ghost use Rattle.std.specs.Prelude.{replicate, OnOk, OnErr, IsOk, IfOk};
-ghost use Rattle.std.specs.List.{copy_within, splice};
+ghost use Rattle.std.specs.Prelude.{◌≡◌, ℕ, ◌+◌, ◌-◌, ◌*◌, ◌<◌, ◌≤◌, [], ◌++◌, length, take, drop};
+ghost use Rattle.std.specs.Prelude.{replicate, OnOk, OnErr, IsOk, IfOk, List};
+ghost use Rattle.std.specs.List.{copy_within, flat_map, splice};
+ghost use Rattle.zv_ule.specs.Bytes.{le};
+ghost use Rattle.zv_owned.specs.Widths.{AreNarrow, IsNarrowed};
 
+use crate::fields::{narrow_fields, widen_fields};
 use std::alloc::Global;
 use std::marker::Model;
 use std::ops::Range;
@@ -183,6 +186,35 @@ impl Shelf {
         let n = from.end - from.start;
         copy_bytes(self.buffer.as_mut_slice(), from.start, from.end, to);
         steps.take(n);
+    }
+
+    /// Makes `count` fields of two bytes at the front fields of four, over as many bytes behind
+    /// them: a step a byte that is written.
+    pub(crate) fn widen_fields<L: Ledger>(&mut self, count: usize, steps: &mut Steps<L>)
+        requires { 4 * count ≤ length self.old.bytes }
+        ensures len { length self.new.bytes ≡ length self.old.bytes }
+        ensures fields { (ss g t : List ℕ) → length ss ≡ count → AreNarrow ss →
+            length g ≡ 2 * count → self.old.bytes ≡ flat_map (le 2) ss ++ (g ++ t) →
+            self.new.bytes ≡ flat_map (le 4) ss ++ t }
+        ensures spare { self.new.spare ≡ self.old.spare }
+        ensures steps { steps.new ≡ steps.old + 4 * count }
+    {
+        widen_fields(self.buffer.as_mut_slice(), count);
+        steps.take(4 * count);
+    }
+
+    /// Makes `count` fields of four bytes at the front, whose numbers fit two, fields of two: a step
+    /// a byte that is written.
+    pub(crate) fn narrow_fields<L: Ledger>(&mut self, count: usize, steps: &mut Steps<L>)
+        requires { 4 * count ≤ length self.old.bytes }
+        ensures len { length self.new.bytes ≡ length self.old.bytes }
+        ensures fields { (ss t : List ℕ) → length ss ≡ count → AreNarrow ss →
+            self.old.bytes ≡ flat_map (le 4) ss ++ t → IsNarrowed ss t self.new.bytes }
+        ensures spare { self.new.spare ≡ self.old.spare }
+        ensures steps { steps.new ≡ steps.old + 2 * count }
+    {
+        narrow_fields(self.buffer.as_mut_slice(), count);
+        steps.take(2 * count);
     }
 
     /// Keeps the first `n` bytes. It takes no memory, and no step.
