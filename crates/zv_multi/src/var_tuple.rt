@@ -11,7 +11,6 @@ use std::marker::PhantomData;
 use std::sync::ledger::Ledger;
 use zv_ule::{
     AsULE, EncodeAsVarULE, Steps, TyName, ULE, UleError, VarRef, VarULE, ZvKind, ZvOrd, order,
-    store,
 };
 
 /// A value of fixed width, and a value that is written as an element of any length.
@@ -115,8 +114,9 @@ impl<A: AsULE, V: VarULE, E: EncodeAsVarULE<V>> EncodeAsVarULE<VarTupleULE<A, V>
 
     #[inline]
     fn encode_var_ule_write(&self, dst: &mut [u8]) {
+        let stored = self.sized.to_unaligned();
         let (sized, variable) = dst.split_at_mut(<A::ULE as ULE>::size());
-        store(self.sized, sized);
+        stored.write_chunk(sized);
         self.variable.encode_var_ule_write(variable);
     }
 }
