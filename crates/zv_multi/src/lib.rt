@@ -2,6 +2,7 @@
 #![tactic(auto)]
 
 mod any;
+mod cow;
 mod fields;
 mod kinds;
 mod option;
@@ -11,6 +12,7 @@ mod values;
 mod var_tuple;
 
 pub use any::AnyBytes;
+pub use cow::VarZeroCow;
 pub use fields::MultiFieldsULE;
 pub use kinds::{End, Field, FieldKinds, FieldOrders};
 pub use option::OptionVarULE;
