@@ -1,3 +1,4 @@
+pub mod Cut
 pub mod Faults
 pub mod Setting
 pub mod Written

@@ -81,7 +81,7 @@ module _ (w n i : ℕ) (b new : List ℕ) (start end : ℕ) (whole : b ≡ lengt
       let kept = starts_kept xs i new same in
       let long : length (flat_map (le w) (starts xs)) ≡ w * (n - 1) = simp (length-flat_map-le, length-starts, many) refl in
       let moved = put_mid-between (flat_map (le w) (starts xs)) (concat (take i xs)) (get_or xs i []) (concat (drop (suc i) xs)) new start (end - start) (omega arith)
-          (omega arith) in
+      (omega arith) in
       ap (λ (r : List ℕ). put_mid start (end - start) r new) (whole ∙ ap (λ (r : List ℕ). flat_map (le w) (starts xs) ++ r) split) ∙ moved
       ∙ rw (kept, concat-set xs i new (omega arith)) refl
 

@@ -12,7 +12,7 @@ use Rattle.zv_var.proofs.Fields.{length-flat_map-le}
 use Rattle.zv_var.specs.Format.{elements_after, fault_after, starts, starts_from}
 use Rattle.zv_var.specs.Laws.{AreValid}
 use Rattle.zv_var.specs.Serialize.{lengthless}
-use Rattle.zv_multi.specs.Records.{fields_fault, no_fault, offsets, offsets_from, record_fault, record_len}
+use Rattle.zv_multi.specs.Records.{encoded_len, fields_fault, no_fault, offsets, offsets_from, record_fault, record_len}
 
 offsets_from_lengths : (n : ℕ) (xs : List (List ℕ)) → offsets_from n (map length xs) ≡ starts_from n xs
 offsets_from_lengths n [] = refl
@@ -35,6 +35,9 @@ length-lengthless w xs = simp (length-append, length-flat_map-le, length-starts,
 pub all_valid : (xs : List (List ℕ)) → AreValid no_fault xs
 all_valid [] = tt
 all_valid (x ∷ xs) = (refl, all_valid xs)
+
+pub some_len : (w : ℕ) (ls : List ℕ) (m : ℕ) → encoded_len w ls ≡ Some m → (w * (length ls - 1) + sum ls ≡ m) × (m < 256 ^ w - 1)
+some_len w ls m h = (grind arith, grind arith)
 
 -- values that fit take as many bytes as are written
 pub fitting : (w : ℕ) (fits : List Bool) (xs : List (List ℕ)) → is_some (record_len w fits xs) ≡ true → record_len w fits xs ≡ Some (length (lengthless w xs))

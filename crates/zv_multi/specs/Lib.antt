@@ -1,1 +1,4 @@
+pub mod Cows
 pub mod Records
+pub mod Options
+pub mod VarTuples

@@ -103,12 +103,10 @@ impl<const LEN: usize, F: VarZeroVecFormat> MultiFieldsULE<LEN, F> {
         requires { encoded_len F.W lengths ≡ Some (length output.old) }
         ensures starts { output.new ≡ flat_map (le F.W) (offsets lengths.entry)
             ++ drop (F.W * (LEN - 1)) output.old }
+        ensures lengths { map length (elements_after F.W LEN output.new) ≡ lengths.entry }
+        ensures shape { shape_fault F.W LEN output.new ≡ None }
     {
-        let [first, others @ ..] = lengths.as_slice() else {
-            return;
-        };
-        let (starts, _) = output.split_at_mut(F::W * others.len());
-        write_starts::<F>(*first, others, starts);
+        write_starts::<F>(&lengths, output);
     }
 
     /// Writes a value over a field of as many bytes.
@@ -150,9 +148,21 @@ fn span<const LEN: usize, F: VarZeroVecFormat>(idx: usize, record: &[u8]) -> (us
     (start, start + field_bytes(fields, idx).len())
 }
 
+/// Writes where fields of these lengths start before what else stands in a record.
+fn write_starts<F: VarZeroVecFormat>(lengths: &[usize], output: &mut [u8])
+    requires { encoded_len F.W lengths.now ≡ Some (length output.old) }
+    ensures { output.new ≡ flat_map (le F.W) (offsets lengths.now)
+        ++ drop (F.W * (length lengths.now - 1)) output.old }
+{
+    if let [first, others @ ..] = lengths {
+        let (starts, _) = output.split_at_mut(F::W * others.len());
+        write_starts_from::<F>(*first, others, starts);
+    }
+}
+
 /// Writes where fields of these lengths start, the first of them at a place, over the whole of
 /// `out`.
-fn write_starts<F: VarZeroVecFormat>(start: usize, lengths: &[usize], out: &mut [u8])
+fn write_starts_from<F: VarZeroVecFormat>(start: usize, lengths: &[usize], out: &mut [u8])
     requires small { start + sum lengths.now < 256 ^ F.W }
     requires whole { length out.old ≡ F.W * length lengths.now }
     ensures { out.new ≡ flat_map (le F.W) (offsets_from start lengths.now) }
@@ -160,7 +170,7 @@ fn write_starts<F: VarZeroVecFormat>(start: usize, lengths: &[usize], out: &mut 
     if let [first, others @ ..] = lengths {
         let (field, rest) = out.split_at_mut(F::W);
         write_start::<F>(start, field);
-        write_starts::<F>(start + *first, others, rest);
+        write_starts_from::<F>(start + *first, others, rest);
     }
 }
 

@@ -2,14 +2,20 @@
 #![tactic(auto)]
 
 mod any;
+mod cow;
 mod fields;
 mod kinds;
+mod option;
 mod record;
 mod tuples;
 mod values;
+mod var_tuple;
 
 pub use any::AnyBytes;
+pub use cow::VarZeroCow;
 pub use fields::MultiFieldsULE;
 pub use kinds::{End, Field, FieldKinds, FieldOrders};
+pub use option::OptionVarULE;
 pub use record::{RecordULE, Tuple2VarULE, Tuple3VarULE, Tuple4VarULE, Tuple5VarULE, Tuple6VarULE};
 pub use values::FieldValues;
+pub use var_tuple::{VarTuple, VarTupleULE};
