@@ -5,6 +5,7 @@ pub mod Numbers
 pub mod Parsed
 pub mod Picked
 pub mod Places
+pub mod Rooms
 pub mod RowIters
 pub mod Seen
 pub mod Splices

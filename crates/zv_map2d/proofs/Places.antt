@@ -1,18 +1,16 @@
 -- What is found and changed in a map in two levels, at the place of a pair of keys.
-use Rattle.zv_map2d.proofs.Common.{◌≡◌, ℕ, suc, ◌+◌, ◌<◌, ◌==◌, ◌&&◌, Bool, false, List, [], ◌∷◌, length, Option, Some, None, is_none, is_some, Result, refl}
+use Rattle.zv_map2d.proofs.Common.{◌≡◌, ℕ, suc, ◌+◌, ◌<◌, ◌==◌, Bool, false, List, [], ◌∷◌, length, Some, None, is_some, refl}
 use Rattle.zv_map2d.proofs.Common.{sym, ◌∙◌, ap, arith, set_split, length-map, slice_get-get_or, IsTotalOrder, remove, slice_get, at_within, look_up_at}
 use Rattle.zv_map2d.proofs.Common.{look_up_gap, rank_at, insert_entry_at, insert_entry_gap, without_key_at, without_key_gap, IsAt, values_of, look_up}
 use Rattle.zv_map2d.proofs.Common.{insert_entry, without_key, set_value_at, compared, IsGap, Rule, fits, fits_by, if_found, Bytes, Order, IsPlace, del_at}
-use Rattle.zv_map2d.proofs.Common.{find_at, fits_at, is_pair, put_at, Rows, IsWell, before, del, find, firsts, put, row, row_at, values, with_row, Map2d, Pair}
-use Rattle.zv_map2d.proofs.Common.{InRow, NewRow, AtMostDigits, ◌-◌, ◌≤◌}
+use Rattle.zv_map2d.proofs.Common.{find_at, fits_at, is_pair, put_at, Rows, IsWell, before, del, find, firsts, put, row, row_at, values, with_row, Pair}
+use Rattle.zv_map2d.proofs.Common.{InRow, NewRow, AtMostDigits, ◌-◌, ◌≤◌, gap_within, true}
+use Rattle.zv_map.specs.Reserved.{IsTaken}
 use Rattle.std.proofs.lemmas.Bool.Decides.{nat_tests}
 use Rattle.std.proofs.lemmas.List.Edits.{length-remove}
 use Rattle.std.specs.Option.{unwrap_or}
 use Rattle.std.specs.Prelude.{cond}
 use Rattle.zv_map2d.specs.Bounds.{AtMostDigitsOf}
-use Rattle.zv_map2d.specs.Outcomes.{Inserts, Puts}
-use Rattle.zv_map2d.specs.Refusals.{is_full}
-use Rattle.zv_map2d.specs.declared.error.Map2dError.{Map2dError}
 use Rattle.zv_map2d.specs.declared.place.Place.{Place}
 use Rattle.zv_map2d.proofs.Flat.{get_pair, pair_within, row_split, row_well}
 
@@ -20,6 +18,11 @@ use Rattle.zv_map2d.proofs.Flat.{get_pair, pair_within, row_split, row_well}
 pub pair_there : (order0 order1 : Order) (m : Rows) (k0 k1 : Bytes) (i j : ℕ) → IsPlace order0 order1 m k0 k1 (Pair i j) →
     (i < length m) × (j < length (row_at m i))
 pair_there order0 order1 m k0 k1 i j at = (at_within order0 k0 m i at.0, at_within order1 k1 (row_at m i) j at.1)
+
+-- and that of a new pair of a row
+pub gap_there : (order0 order1 : Order) (m : Rows) (k0 k1 : Bytes) (i j : ℕ) → IsPlace order0 order1 m k0 k1 (InRow i j) →
+    (i < length m) × (j ≤ length (row_at m i))
+gap_there order0 order1 m k0 k1 i j at = (at_within order0 k0 m i at.0, gap_within order1 k1 (row_at m i) j at.1)
 
 -- where the pair is not there, nothing is found, and nothing is taken out
 module _ (m : Rows) where
@@ -83,6 +86,10 @@ module _ {order0 order1 : Order} (total0 : IsTotalOrder order0) (total1 : IsTota
       fits_by_is _ rule v (Pair i j) h ∙ rw (rank_at total0 k0 m i h.0, row_is i h.0, rank_at total1 k1 (row_at m i) j h.1) refl
   fits_is rule v p h = fits_by_is _ rule v p h
 
+  pub taken_there : (rule : Rule) (v : Bytes) (p : Place) → IsPlace order0 order1 m k0 k1 p → IsTaken (fits rule order0 order1 m k0 k1 v) →
+      fits_at rule m k0 k1 v p ≡ true
+  taken_there rule v p at h = sym (fits_is rule v p at) ∙ h.taken
+
   pub del_is : IsWell order0 order1 m → (p : Place) → IsPlace order0 order1 m k0 k1 p → del order0 order1 m k0 k1 ≡ del_at m p
   del_is well (Pair i j) h =
       let one = length-remove (row_at m i) j (at_within order1 k1 (row_at m i) j h.1) in
@@ -94,19 +101,6 @@ module _ {order0 order1 : Order} (total0 : IsTotalOrder order0) (total1 : IsTota
       let test : (length (row_at m i) == 0) ≡ false = grind (arith, nat_tests) in
       rw (row_is i h.0, without_key_gap total1 k1 (row_at m i) j h.1, with_row_at i h.0 (row_at m i), test) (set_split m i _ w ∙ sym (row_split m i w))
   del_is well (NewRow i) h = ap (λ r. with_row order0 m k0 (without_key order1 r k1)) (no_row i h) ∙ without_key_gap total0 k0 m i h
-
--- what a put says, told at the place
-pub new_said : {A : Type 0} {bytes : A → Bytes} {old new : Map2d} {m : Rows} {o : Option Bytes} {takes full : Bool} {r : Result (Option A) Map2dError} →
-    o ≡ None → Inserts bytes old new m None takes full r → Inserts bytes old new m o takes (is_none o && full) r
-new_said e h = rw e h
-
-module _ {A : Type 0} (bytes : A → Bytes) {order0 order1 : Order} (total0 : IsTotalOrder order0) (total1 : IsTotalOrder order1) (rule : Rule)
-    (old new : Map2d) (k0 k1 v : Bytes) where
-  pub put_said : (p : Place) (r : Result (Option A) Map2dError) → IsPlace order0 order1 old.rows k0 k1 p →
-      Inserts bytes old new (put_at old.rows k0 k1 v p) (find_at old.rows p) (fits_at rule old.rows k0 k1 v p)
-      (is_none (find_at old.rows p) && is_full old.rows) r → Puts bytes rule order0 order1 old new k0 k1 v r
-  put_said p r at h =
-      rw (fits_is total0 total1 old.rows k0 k1 rule v p at, put_is total0 total1 old.rows k0 k1 v p at, find_is total0 total1 old.rows k0 k1 p at) h
 
 -- how many comparisons they take, where the second search is in the row that the first found
 pub searches_in_row : {order0 order1 : Order} → IsTotalOrder order0 → IsTotalOrder order1 → (m : Rows) (k0 : Bytes) (i : ℕ) →

@@ -1,7 +1,7 @@
 -- What the four lists of a map have.
 use Rattle.zv_map2d.proofs.Common.{◌≡◌, ◌⊎◌, ℕ, suc, ◌+◌, ◌-◌, ◌<◌, ◌≤◌, Bool, List, [], length, get_or, slice_index, take, Result, sym, ◌∙◌, ap, arith}
 use Rattle.zv_map2d.proofs.Common.{zero-add, length-append, length-drop, length-take, Some, length-map, take-take, take_all, slice_get-get_or, IsTotalOrder}
-use Rattle.zv_map2d.proofs.Common.{AllByRecursion, insert, remove, slice_get, compared_range, placed, IsAt, IsMap, keys_of, values_of, compared}
+use Rattle.zv_map2d.proofs.Common.{AllByRecursion, insert, remove, slice_get, same_Some, compared_range, placed, IsAt, IsMap, keys_of, values_of, compared}
 use Rattle.zv_map2d.proofs.Common.{Found, IsGap, last_key, Bytes, Order, nth, Rows, firsts, seconds, IsFlat, IsRow, IsWell, before, row_at, rows_of, AreColumns}
 use Rattle.zv_map2d.proofs.Common.{size, Map2d, Row, Vector, row_seen, slice_range, zip}
 use Rattle.std.specs.Result.{MatchResult}
@@ -13,15 +13,20 @@ pub same_lists : {k0s l0s : List Bytes} {es fs : List ℕ} {k1s l1s vs us : List
     IsFlat k0s es k1s vs m → IsFlat l0s fs l1s us m
 same_lists a b c d s = record { firsts_are = a ∙ s.firsts_are; ends_are = b ∙ s.ends_are; seconds_are = c ∙ s.seconds_are; values_are = d ∙ s.values_are }
 
--- the lists of the map that is seen
-pub seen : {u0 u1 u2 : Bool} {k0s : List Bytes} {es : List ℕ} {k1s vs : List Bytes} {a b c d : Vector} {m : Map2d} →
-    record { rows = rows_of k0s es k1s vs; keys0 = a; joiner = b; keys1 = c; values = d } ≡ m → AreColumns u0 u1 u2 k0s es k1s vs → IsFlat k0s es k1s vs m.rows
-seen same h = rw (← same) h.flat
+-- the lists of the map that is seen, and that it is well formed
+module _ {u0 u1 u2 : Bool} {o0 o1 : Order} {k0s : List Bytes} {es : List ℕ} {k1s vs : List Bytes} {a b c d : Vector} {m : Map2d}
+    (same : record { rows = rows_of k0s es k1s vs; keys0 = a; joiner = b; keys1 = c; values = d } ≡ m) (h : AreColumns u0 u1 u2 o0 o1 k0s es k1s vs) where
+  pub seen : IsFlat k0s es k1s vs m.rows
+  seen = rw (← same) h.flat
 
--- lists of a map are columns where others were
-pub columns : {u0 u1 u2 : Bool} {k0s l0s : List Bytes} {es fs : List ℕ} {k1s l1s vs us : List Bytes} {m : Rows} → AreColumns u0 u1 u2 k0s es k1s vs →
-    IsFlat l0s fs l1s us m → AreColumns u0 u1 u2 l0s fs l1s us
-columns old flat = record { keys0 = old.keys0; keys1 = old.keys1; values = old.values; flat = rw (view_of flat) flat }
+  pub seen_well : IsWell o0 o1 m.rows
+  seen_well = rw (← same) h.well
+
+-- lists of a well formed map are columns where others were
+pub columns : {u0 u1 u2 : Bool} {o0 o1 : Order} {k0s l0s : List Bytes} {es fs : List ℕ} {k1s l1s vs us : List Bytes} {m : Rows} →
+    AreColumns u0 u1 u2 o0 o1 k0s es k1s vs → IsFlat l0s fs l1s us m → IsWell o0 o1 m → AreColumns u0 u1 u2 o0 o1 l0s fs l1s us
+columns old flat well =
+    record { keys0 = old.keys0; keys1 = old.keys1; values = old.values; flat = rw (view_of flat) flat; well = rw (view_of flat) well }
 
 -- lists of a well formed map are those of the map that they stand for
 pub views : (order0 order1 : Order) {k0s : List Bytes} {es : List ℕ} {k1s vs : List Bytes} {m : Rows} → IsFlat k0s es k1s vs m → IsWell order0 order1 m →
@@ -44,8 +49,8 @@ pub no_more : (xs ys : List Bytes) (i : ℕ) → ys ≡ remove xs i → length y
 no_more xs ys i e = rw e (simp (length-append, length-take, length-drop) (omega arith))
 
 -- as many second keys as the list has
-pub few_more : {u0 u1 u2 : Bool} {k0s l0s : List Bytes} {es fs : List ℕ} {k1s l1s vs us : List Bytes} (n : ℕ) → AreColumns u0 u1 u2 k0s es k1s vs →
-    AreColumns u0 u1 u2 l0s fs l1s us → length l1s ≤ length k1s + n →
+pub few_more : {u0 u1 u2 : Bool} {o0 o1 : Order} {k0s l0s : List Bytes} {es fs : List ℕ} {k1s l1s vs us : List Bytes} (n : ℕ) →
+    AreColumns u0 u1 u2 o0 o1 k0s es k1s vs → AreColumns u0 u1 u2 o0 o1 l0s fs l1s us → length l1s ≤ length k1s + n →
     length (seconds (rows_of l0s fs l1s us)) ≤ length (seconds (rows_of k0s es k1s vs)) + n
 few_more n before after h = rw (← before.flat.seconds_are, ← after.flat.seconds_are) h
 
@@ -83,6 +88,9 @@ module _ {k0s : List Bytes} {es : List ℕ} {k1s vs : List Bytes} {m : Rows} (s 
     -- where the pairs of a row end
     pub end_is : get_or es i 0 ≡ before m (suc i)
     end_is = rw s.ends_are (end_at 0 m i h ∙ zero-add (before m (suc i)))
+
+    pub end_read : {n : ℕ} → slice_get es i ≡ Some n → n ≡ before m (suc i)
+    end_read {n} e = same_Some n _ (sym e ∙ slice_get-get_or es i 0 (omega (arith, h, ends_count))) ∙ end_is
 
     pub row_within : (before m i ≤ before m (suc i)) × (before m (suc i) ≤ length k1s) × (before m (suc i) ≤ length vs)
     row_within = let top = before_within m (suc i) in (omega (arith, before_suc m i h), omega (arith, pairs_count.0), omega (arith, pairs_count.1))

@@ -1,7 +1,7 @@
 -- Images: from the bytes to the parts, and to the map that they stand for.
 use Rattle.zv_map2d.proofs.Common.{◌≡◌, ℕ, ◌<◌, ◌≤◌, List, ◌++◌, length, take, drop, Option, Some, None, sym, ◌∙◌, ap, subst, arith, Result, Ok, Err}
-use Rattle.zv_map2d.proofs.Common.{append-nil, nil_from_length, take-append-drop, option_and_then_some, flat_map, IsBytes, le, number, elements, list_fault}
-use Rattle.zv_map2d.proofs.Common.{Part, lists_read, read_fault, rows_read, Bytes, ends, Map2d, parts_of, append_assoc, length-take-le}
+use Rattle.zv_map2d.proofs.Common.{append-nil, nil_from_length, take-append-drop, option_and_then_some, IsBytes, le, number, elements, list_fault}
+use Rattle.zv_map2d.proofs.Common.{Part, lists_read, read_fault, rows_read, Bytes, Map2d, parts_of, append_assoc, length-take-le}
 use Rattle.std.proofs.lemmas.Cmp.{nat_list_cmp_total as total}
 use Rattle.std.specs.Result.{result_err, IfOk}
 use Rattle.zv_ule.proofs.Fields.{le-number_at}

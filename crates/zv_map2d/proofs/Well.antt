@@ -1,13 +1,16 @@
 -- Changes keep a map well formed.
-use Rattle.zv_map2d.proofs.Common.{◌≡◌, ◌<◌, List, [], ◌∷◌, length, Option, Some, None, Result, Ok, Err, OnOk, OnErr, sym, subst, arith, IsTotalOrder}
+use Rattle.zv_map2d.proofs.Common.{◌≡◌, ◌<◌, List, [], ◌∷◌, length, Option, Some, None, subst, arith, IsTotalOrder, IsPlace, put_at, ℕ, ◌==◌, false, ◌∙◌}
+use Rattle.zv_map2d.proofs.Common.{refl, remove, row_at, set_value_at, Pair}
+use Rattle.std.proofs.lemmas.Bool.Decides.{nat_tests}
 use Rattle.zv_map2d.proofs.Common.{AllByRecursion, Ordering, IsMap-insert_entry, IsMap-without_key, values_with, values_without, IsMap, values_of, look_up}
-use Rattle.zv_map2d.proofs.Common.{insert_entry, Bytes, Order, Rows, IsWell, row, put, with_row, del, Map2d, IfSome}
+use Rattle.zv_map2d.proofs.Common.{insert_entry, Bytes, Order, Rows, IsWell, row, put, with_row, del, IfSome}
 use Rattle.std.proofs.lemmas.List.Elements.{All-from_recursion}
 use Rattle.std.proofs.lemmas.Map.Views.{IfSome-lookup_from_All}
 use Rattle.std.specs.BTreeMap.{is_at}
 use Rattle.std.specs.List.Sorted.{IsStrictlySortedBy}
 use Rattle.std.specs.Option.{unwrap_or}
-use Rattle.zv_map2d.specs.Room.{IsSameMap}
+use Rattle.zv_map2d.specs.declared.place.Place.{Place}
+use Rattle.zv_map2d.proofs.Places.{del_is, put_is}
 
 module _ {X : Type 0} (Q : X → Type 0) where
   -- what holds of what each entry has holds of the values, and back
@@ -66,8 +69,29 @@ pub none_well : (order0 order1 : Bytes → Bytes → Ordering) {m : Rows} → m 
 unfolding IsStrictlySortedBy
 none_well order0 order1 e = rw e (tt, tt)
 
--- what a call leaves is well formed
-module _ (old new : Map2d) (order0 order1 : Order) (m : Rows) (after : IsWell order0 order1 m) (before : IsWell order0 order1 old.rows) {A E : Type 0} where
-  pub changed_well : (r : Result A E) → OnOk r (new.rows ≡ m) → OnErr r (IsSameMap old new) → IsWell order0 order1 new.rows
-  changed_well (Ok x) ok err = subst (IsWell order0 order1) (sym ok) after
-  changed_well (Err e) ok err = subst (IsWell order0 order1) (sym err.rows) before
+-- a change at the place of a pair of keys keeps a map well formed
+module _ {order0 order1 : Order} (total0 : IsTotalOrder order0) (total1 : IsTotalOrder order1) (m : Rows) (k0 k1 : Bytes) (well : IsWell order0 order1 m)
+    (p : Place) (at : IsPlace order0 order1 m k0 k1 p) where
+  pub put_at_well : (v : Bytes) → IsWell order0 order1 (put_at m k0 k1 v p)
+  put_at_well v = subst (IsWell order0 order1) (put_is total0 total1 m k0 k1 v p at) (put_well total0 total1 m k0 well k1 v)
+
+-- and so does a removal there
+module _ {order0 order1 : Order} (total0 : IsTotalOrder order0) (total1 : IsTotalOrder order1) (m : Rows) (k0 k1 : Bytes) (well : IsWell order0 order1 m)
+    (i j : ℕ) (at : IsPlace order0 order1 m k0 k1 (Pair i j)) where
+  -- of a row's only pair
+  module _ (one : length (row_at m i) ≡ 1) where
+    pub row_gone : del order0 order1 m k0 k1 ≡ remove m i
+    row_gone = del_is total0 total1 m k0 k1 well (Pair i j) at ∙ rw one refl
+
+    pub row_gone_well : IsWell order0 order1 (remove m i)
+    row_gone_well = subst (IsWell order0 order1) row_gone (del_well total0 total1 m k0 well k1)
+
+  -- of one of others
+  module _ (others : length (row_at m i) ≡ 1 → ⊥) where
+    pub pair_gone : del order0 order1 m k0 k1 ≡ set_value_at m i (remove (row_at m i) j)
+    pair_gone =
+        let test : (length (row_at m i) == 1) ≡ false = grind (arith, nat_tests) in
+        del_is total0 total1 m k0 k1 well (Pair i j) at ∙ rw test refl
+
+    pub pair_gone_well : IsWell order0 order1 (set_value_at m i (remove (row_at m i) j))
+    pair_gone_well = subst (IsWell order0 order1) pair_gone (del_well total0 total1 m k0 well k1)

@@ -7,7 +7,7 @@ pub mod Fits
 pub mod Frame
 pub mod Image
 pub mod Keys
-pub mod Outcomes
+pub mod Laws
 pub mod Places
 pub mod Predicates
 pub mod Refusals

@@ -4,8 +4,9 @@ use Rattle.std.specs.List.{flat_map, range_with_len}
 use Rattle.zv_ule.specs.Bytes.{le}
 use Rattle.zv_ule.specs.declared.error.UleError.{UleError}
 use Rattle.zv_map2d.specs.Frame.{Parts}
-use Rattle.zv_map2d.specs.Keys.{Bytes, nth}
+use Rattle.zv_map2d.specs.Keys.{Bytes, Order, nth}
 use Rattle.zv_map2d.specs.Rows.{Rows, firsts, seconds, values, ends, rows_of, row_at, IsFlat}
+use Rattle.zv_map2d.specs.Rows.{IsWell}
 use Rattle.zv_map.specs.Layouts.{list_in, spells_in, written}
 pub use Rattle.zv_map.specs.Vectors.{Vector, KeepsItsRoom}
 use Rattle.zv_map.specs.declared.view.Layout.{Layout}
@@ -117,10 +118,12 @@ abbrev pub written_of : Map2d → Parts
 written_of m =
     written_parts (written m.keys0.layout) (written m.keys1.layout) (written m.values.layout) m.rows
 
--- four lists of elements of usable kinds are those of the map that they stand for
-pub record AreColumns (usable0 usable1 usable2 : Bool) (k0s : List Bytes) (es : List ℕ)
-    (k1s vs : List Bytes) : Type 0 where
+-- four lists of elements of usable kinds are those of the map that they stand for, which is well
+-- formed
+pub record AreColumns (usable0 usable1 usable2 : Bool) (order0 order1 : Order) (k0s : List Bytes)
+    (es : List ℕ) (k1s vs : List Bytes) : Type 0 where
   pub keys0 : IsTrue usable0
   pub keys1 : IsTrue usable1
   pub values : IsTrue usable2
   pub flat : IsFlat k0s es k1s vs (rows_of k0s es k1s vs)
+  pub well : IsWell order0 order1 (rows_of k0s es k1s vs)

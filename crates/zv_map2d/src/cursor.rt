@@ -1,14 +1,17 @@
 // One row of a map.
-ghost use Rattle.std.specs.Prelude.{◌≡◌, ℕ, ◌^◌, ◌<◌, ◌≤◌, ◌-◌, ◌↔◌, length, Option};
-ghost use Rattle.std.specs.Prelude.{IsTrue, map, option_map};
+ghost use Rattle.std.specs.Prelude.{◌≡◌, ℕ, ◌^◌, ◌<◌, ◌≤◌, ◌-◌, ◌↔◌, List, length, Option};
+ghost use Rattle.std.specs.Prelude.{IfSome, IsTrue, map, option_map};
+ghost use Rattle.std.specs.Fn.{ComputesKey};
+ghost use Rattle.std.specs.declared.cmp.Ordering.{Ordering};
 ghost use Rattle.zv_ule.specs.Search.{AtMostDigits};
 ghost use Rattle.zv_ule.specs.Views.{element_of};
 ghost use Rattle.zv_map.specs.Maps.{look_up};
+ghost use Rattle.zv_map2d.specs.Predicates.{FoundBy, IsPicked};
 
 use crate::borrowed::ZeroMap2dBorrowed;
-use crate::copied::copied;
-use std::marker::{Brand, Model, PhantomData};
-use std::sync::ledger::{Blank, Ledger};
+use std::cmp::Ordering;
+use std::marker::{Model, PhantomData};
+use std::sync::ledger::Ledger;
 use zv_map::{ZeroMapCopiedValues, ZeroMapIter};
 use zv_ule::{AsULE, Steps, VarRef, ZvKind, ZvOrd, ZvOrdArg};
 
@@ -94,25 +97,10 @@ impl<'l, 'a, K0: ZvOrd, K1: ZvOrd, V: ZvKind> ZeroMap2dCursor<'l, 'a, K0, K1, V>
         ensures digits { AtMostDigits (steps.new - steps.old) (length self.now.pairs) }
         ensures counted { steps.old ≤ steps.new }
     {
-        let Ok(pair) = self.map.pair_place(self.row, key1, steps) else {
+        let Ok(pair) = self.map.pair_place_counted(self.row, key1, steps) else {
             return None;
         };
         self.map.value_at(self.row, pair)
-    }
-
-    // The look-up with a counter that nobody reads.
-    fn get1_from<Q1: ZvOrdArg<K1>, L: Ledger>(
-        &self,
-        key1: &Q1,
-        blank: Blank,
-    ) -> Option<VarRef<'l, V>>
-        requires key1 { length (Q1.bytes key1.now) < 2 ^ 64 }
-        requires name { blank.name ≡ L.name }
-        requires parts { blank.parts ≡ L.parts }
-        requires some { 0 < blank.parts }
-        ensures { option_map element_of result ≡ look_up K1.cmp self.now.pairs (Q1.bytes key1.now) }
-    {
-        self.get1_counted(key1, &mut Steps::<L>::start(blank))
     }
 
     /// The value of the row's pair with a second key, if there is one. It is one search.
@@ -120,7 +108,25 @@ impl<'l, 'a, K0: ZvOrd, K1: ZvOrd, V: ZvKind> ZeroMap2dCursor<'l, 'a, K0, K1, V>
         requires { length (Q1.bytes key1.now) < 2 ^ 64 }
         ensures { option_map element_of result ≡ look_up K1.cmp self.now.pairs (Q1.bytes key1.now) }
     {
-        self.get1_from::<Q1, Brand>(key1, Blank::new(1))
+        let Ok(pair) = self.map.pair_place(self.row, key1) else {
+            return None;
+        };
+        self.map.value_at(self.row, pair)
+    }
+
+    /// The value of a pair of the row at whose second key the predicate answers `Equal`, found by
+    /// halving: it has to answer `Less` before that key, and `Greater` after it.
+    pub fn get1_by<P: FnMut(&[u8]) -> Ordering>(&self, predicate: P) -> Option<VarRef<'l, V>>
+        requires { P.IsAlwaysCallable predicate }
+        ensures equal { IfSome result
+            (λ v. IsPicked P.FnMut predicate self.now.pairs (element_of v)) }
+        ensures found { (answer : List ℕ → Ordering) → ComputesKey P.FnMut answer predicate →
+            FoundBy answer self.now.pairs (option_map element_of result) }
+    {
+        let Ok(pair) = self.map.pair_place_by(self.row, predicate) else {
+            return None;
+        };
+        self.map.value_at(self.row, pair)
     }
 
     /// Whether two rows stand at the same place of maps with the same pairs.
@@ -159,6 +165,20 @@ impl<'l, 'a, K0: ZvOrd, K1: ZvOrd, V: AsULE> ZeroMap2dCursor<'l, 'a, K0, K1, V> 
         ensures stored { option_map (λ v. V.ULE.chunk (V.stored v)) result
             ≡ look_up K1.cmp self.now.pairs (Q1.bytes key1.now) }
     {
-        copied(self.get1(key1))
+        let value = self.get1(key1)?;
+        Some(value.value())
+    }
+
+    /// The value of a pair of the row at whose second key the predicate answers `Equal`, as
+    /// [`get1_by`](Self::get1_by) finds it, as a value in hand.
+    pub fn get1_copied_by<P: FnMut(&[u8]) -> Ordering>(&self, predicate: P) -> Option<V>
+        requires { P.IsAlwaysCallable predicate }
+        ensures equal { IfSome result
+            (λ v. IsPicked P.FnMut predicate self.now.pairs (V.ULE.chunk (V.stored v))) }
+        ensures found { (answer : List ℕ → Ordering) → ComputesKey P.FnMut answer predicate →
+            FoundBy answer self.now.pairs (option_map (λ v. V.ULE.chunk (V.stored v)) result) }
+    {
+        let value = self.get1_by(predicate)?;
+        Some(value.value())
     }
 }

@@ -8,23 +8,15 @@
 //! containers.
 #![tactic(auto)]
 
-mod appending;
 pub mod borrowed;
-mod columns;
-mod copied;
-mod copies;
 pub mod cursor;
-mod edits;
 pub mod error;
 pub mod image;
-mod joiner;
+pub mod laws;
 pub mod map;
-mod order;
 mod parse;
 pub mod parts;
 pub mod place;
-mod predicates;
-mod reads;
 pub mod rows;
 
 pub use borrowed::ZeroMap2dBorrowed;

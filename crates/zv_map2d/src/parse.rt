@@ -15,7 +15,6 @@ ghost use Rattle.zv_map2d.specs.Rows.{IsWell, rows_of};
 ghost use Rattle.zv_map2d.specs.Views.{IsBorrowed, parts_of};
 ghost use Rattle.zv_map2d.specs.declared.error.EditError.TheVariants.{Ule};
 
-use crate::columns::Columns;
 use crate::error::EditError;
 use crate::map::Map2dOver;
 use std::marker::PhantomData;
@@ -163,13 +162,11 @@ impl<
     {
         check_lists::<K0, K1, V, C0, C1, D>(&keys0, &joiner, &keys1, &values)?;
         Ok(Map2dOver {
-            columns: Columns {
-                keys0,
-                joiner,
-                keys1,
-                values,
-                kinds: PhantomData,
-            },
+            keys0,
+            joiner,
+            keys1,
+            values,
+            kinds: PhantomData,
         })
     }
 
