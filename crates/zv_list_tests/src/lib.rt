@@ -23,3 +23,5 @@ mod shelves;
 mod splices;
 #[cfg(test)]
 mod vectors;
+#[cfg(test)]
+mod widths;

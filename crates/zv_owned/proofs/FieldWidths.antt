@@ -1,5 +1,7 @@
 -- Fields that are made wider or narrower one after another.
-use Rattle.zv_owned.proofs.Common.{◌*◌, ◌++◌, ◌+◌, ◌-◌, ◌<◌, ◌∙◌, ◌∷◌, ◌≡◌, ◌≤◌, All-from_recursion, List, [], ap, append-nil, append_assoc, arith, drop, drop-drop, drop_at, flat_map, flat_map-append, get_or, le, length, length-append, length-drop, length-flat_map-le, length-le, length-take-le, refl, sym, take, take-append-drop, take-append-le, take_at, ℕ}
+use Rattle.zv_owned.proofs.Common.{◌*◌, ◌++◌, ◌+◌, ◌-◌, ◌<◌, ◌∙◌, ◌∷◌, ◌≡◌, ◌≤◌, All-from_recursion, List, [], ap, append-nil, append_assoc, arith, drop}
+use Rattle.zv_owned.proofs.Common.{drop-drop, drop_at, flat_map, flat_map-append, get_or, le, length, length-append, length-drop, length-flat_map-le}
+use Rattle.zv_owned.proofs.Common.{length-le, length-take-le, refl, sym, take, take-append-drop, take-append-le, take_at, ℕ}
 use Rattle.std.proofs.Common.{◌%◌}
 use Rattle.std.proofs.Math.Nat.{mod-eq_of_lt}
 use Rattle.std.proofs.lemmas.List.{at_drop_more, drop-take, drop_all, take-take, take_all, take_more}
@@ -21,8 +23,10 @@ front_more w ss k h =
 front_long : (w : ℕ) (ss : List ℕ) (k : ℕ) → k ≤ length ss → length (flat_map (le w) (take k ss)) ≡ w * k
 front_long w ss k h = rw (length-flat_map-le, length-take-le k ss h) refl
 
-back_more : (w : ℕ) (ss t : List ℕ) (k : ℕ) → k < length ss → flat_map (le w) (drop k ss) ++ t ≡ le w (get_or ss k 0) ++ (flat_map (le w) (drop (k + 1) ss) ++ t)
-back_more w ss t k h = ap (λ (l : List ℕ). l ++ t) (at_drop_more (flat_map (le w)) ss k 0 h) ∙ append_assoc (le w (get_or ss k 0)) (flat_map (le w) (drop (k + 1) ss)) t
+back_more : (w : ℕ) (ss t : List ℕ) (k : ℕ) → k < length ss →
+    flat_map (le w) (drop k ss) ++ t ≡ le w (get_or ss k 0) ++ (flat_map (le w) (drop (k + 1) ss) ++ t)
+back_more w ss t k h = ap (λ (l : List ℕ). l ++ t) (at_drop_more (flat_map (le w)) ss k 0 h)
+    ∙ append_assoc (le w (get_or ss k 0)) (flat_map (le w) (drop (k + 1) ss)) t
 
 fits : (ss : List ℕ) (k : ℕ) → AreNarrow ss → k < length ss → get_or ss k 0 < 65536
 fits ss k small h = All-from_recursion (λ s. s < 65536) ss small k 0 h
@@ -115,6 +119,7 @@ narrowed {b} {n} ss t count long was =
     let size : length left ≡ 2 * n = length-take-le (2 * n) rest (omega (arith, length-drop (2 * n) b)) in
     record {
       left = left;
-      is = sym (take-append-drop (2 * n) b) ∙ ap (λ (l : List ℕ). l ++ rest) (was.front ∙ ap (flat_map (le 2)) all) ∙ ap (λ (l : List ℕ). flat_map (le 2) ss ++ l) split;
+      is = sym (take-append-drop (2 * n) b) ∙ ap (λ (l : List ℕ). l ++ rest) (was.front ∙ ap (flat_map (le 2)) all)
+          ∙ ap (λ (l : List ℕ). flat_map (le 2) ss ++ l) split;
       long = omega (arith, size, count);
     }

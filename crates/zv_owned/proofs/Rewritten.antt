@@ -1,5 +1,7 @@
 -- Lists that are written with wider or narrower fields.
-use Rattle.zv_owned.proofs.Common.{[], ◌*◌, ◌++◌, ◌+◌, ◌<◌, ◌^◌, ◌∙◌, ◌∷◌, ◌≡◌, ◌≤◌, AllByRecursion, AreValid, IsRegapped, List, Option, None, Part, Part_from_fault, ap, append-nil, append_assoc, arith, codable, concat, elements, enc, flat_map, from_codable, le, length, length-flat_map-le, length-starts_from, refl, starts, starts_from, sym, true, ℕ}
+use Rattle.zv_owned.proofs.Common.{[], ◌*◌, ◌++◌, ◌+◌, ◌<◌, ◌^◌, ◌∙◌, ◌∷◌, ◌≡◌, ◌≤◌, AllByRecursion, AreValid, IsRegapped, List, Option, None, Part}
+use Rattle.zv_owned.proofs.Common.{Part_from_fault, ap, append-nil, append_assoc, arith, codable, concat, elements, enc, flat_map, from_codable, le, length}
+use Rattle.zv_owned.proofs.Common.{length-flat_map-le, length-starts_from, refl, starts, starts_from, sym, true, ℕ}
 use Rattle.std.proofs.Common.{Err, Ok, OnErr, OnOk, Result}
 use Rattle.std.proofs.lemmas.List.{nil_from_length}
 use Rattle.zv_ule.specs.Bytes.{IsBytes}
@@ -20,7 +22,8 @@ all_below m k (s ∷ ss) h f = (omega (arith, f.0), all_below m k ss h f.1)
 pub codable_wider : (xs : List (List ℕ)) → codable 2 xs ≡ true → codable 4 xs ≡ true
 codable_wider xs c =
     let f = fields_fit 2 xs c in
-    can_write 4 xs (record { count = omega (arith, f.count); short = omega (arith, f.count); starts = all_below (256 ^ 2) (256 ^ 4) (starts_from 0 xs) (omega arith) f.starts })
+    let below = all_below (256 ^ 2) (256 ^ 4) (starts_from 0 xs) (omega arith) f.starts in
+    can_write 4 xs (record { count = omega (arith, f.count); short = omega (arith, f.count); starts = below })
 
 -- and the other way round, if it isn't too long
 pub codable_narrower : (xs : List (List ℕ)) → 2 * length xs + length (concat xs) ≤ 65535 → codable 2 xs ≡ true

@@ -203,8 +203,8 @@ impl Shelf {
         steps.take(4 * count);
     }
 
-    /// Makes `count` fields of four bytes at the front, whose numbers fit two, fields of two: a step
-    /// a byte that is written.
+    /// Makes `count` fields of four bytes at the front, whose numbers fit two, fields of two: a
+    /// step a byte that is written.
     pub(crate) fn narrow_fields<L: Ledger>(&mut self, count: usize, steps: &mut Steps<L>)
         requires { 4 * count ≤ length self.old.bytes }
         ensures len { length self.new.bytes ≡ length self.old.bytes }

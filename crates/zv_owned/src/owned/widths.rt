@@ -25,7 +25,8 @@ impl<T: ZvKind> VarZeroVecOwned<T, Index16> {
         ensures bytes { IfOk result (λ v. v.bytes ≡ enc 4 self.list) }
         // where it is refused
         ensures err { IfErr result (λ v. v ≡ self) }
-        ensures succeeds { OnErr result (length self.bytes + self.spare < length (enc 4 self.list)) }
+        ensures succeeds { OnErr result
+            (length self.bytes + self.spare < length (enc 4 self.list)) }
         ensures reserved { 2 * length self.list ≤ self.spare → IsOk result }
         // what it takes
         ensures memory { IfOk result (λ v. KeepsMemory self v) }
@@ -59,7 +60,8 @@ impl<T: ZvKind> VarZeroVecOwned<T, Index16> {
         ensures bytes { IfOk result (λ v. v.bytes ≡ enc 4 self.list) }
         // where it is refused
         ensures err { IfErr result (λ v. v ≡ self) }
-        ensures succeeds { OnErr result (length self.bytes + self.spare < length (enc 4 self.list)) }
+        ensures succeeds { OnErr result
+            (length self.bytes + self.spare < length (enc 4 self.list)) }
         ensures reserved { 2 * length self.list ≤ self.spare → IsOk result }
         // what it takes
         ensures memory { IfOk result (λ v. KeepsMemory self v) }
@@ -77,7 +79,8 @@ impl<T: ZvKind> VarZeroVecOwned<T, Index16> {
         ensures bytes { IfOk result (λ v. v.bytes ≡ enc 4 self.list) }
         // where it is refused
         ensures err { IfErr result (λ v. v ≡ self) }
-        ensures succeeds { OnErr result (length self.bytes + self.spare < length (enc 4 self.list)) }
+        ensures succeeds { OnErr result
+            (length self.bytes + self.spare < length (enc 4 self.list)) }
         ensures reserved { 2 * length self.list ≤ self.spare → IsOk result }
         // what it takes
         ensures memory { IfOk result (λ v. KeepsMemory self v) }

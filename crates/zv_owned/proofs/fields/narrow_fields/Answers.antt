@@ -12,7 +12,8 @@ loop-done-preserved c =
       within = omega (arith, c.loop-done-test.true);
       long = search rules;
       widths = λ ss t count small is. one_narrowed ss t refl refl (omega (arith, count, c.loop-done-test.true))
-          (omega (arith, before.long, c.loop-done-test.true)) small (before.widths ss t count small is) c.read_start-number.ensures.value refl c.write_start.ensures;
+          (omega (arith, before.long, c.loop-done-test.true)) small (before.widths ss t count small is)
+          c.read_start-number.ensures.value refl c.write_start.ensures;
     }
 
 pub returns-clause-fields : goal.returns-clause-fields
