@@ -1,6 +1,6 @@
 -- What a search of a map's keys says of a look-up.
 use Rattle.zv_map1.proofs.Common.{Order, IsTotalOrder, Bytes, Pairs, ℕ, IsAt, compared, keys_of, look_up, ◌≡◌, Some, nth, values_of, look_up_at, ◌∙◌}
-use Rattle.zv_map1.proofs.Common.{slice_get-get_or, [], arith, at_within, length-map, Result, MatchResult, IsGap, is_ok, is_some, Ok, refl, Err, look_up_gap}
+use Rattle.zv_map1.proofs.Common.{slice_get-get_or, [], arith, at_within, length-map, Result, MatchResult, IsGap, Ok, Err, look_up_gap}
 use Rattle.zv_map1.proofs.Common.{Mut, Bor, Ordering, List, Option, IsSearchInRange, length, AnsweredEqual, ComputesKey, Found, map, value_found, IsFoundBy}
 use Rattle.zv_map1.proofs.Common.{subst, sym, ap}
 use Rattle.zv_map1.proofs.Zipped.{parts}
@@ -10,12 +10,6 @@ module _ {order : Order} (total : IsTotalOrder order) (k : Bytes) (m : Pairs) wh
   pub value_at : (i : ℕ) → IsAt (compared order (keys_of m) k) i → look_up order m k ≡ Some (nth (values_of m) i)
   value_at i h =
       look_up_at total k m i h ∙ slice_get-get_or (values_of m) i [] (omega (arith, at_within order k m i h, length-map m (λ e. e.1)))
-
-  -- the key has a value just where a search found it
-  pub is_there : (r : Result ℕ ℕ) → MatchResult r (IsAt (compared order (keys_of m) k)) (IsGap (compared order (keys_of m) k)) →
-      is_ok r ≡ is_some (look_up order m k)
-  is_there (Ok i) h = rw (value_at i h) refl
-  is_there (Err i) h = rw (look_up_gap total k m i h) refl
 
   -- the key has what stands at the place that a search found, and nothing where it found a gap
   pub value_there : (r : Result ℕ ℕ) → MatchResult r (IsAt (compared order (keys_of m) k)) (IsGap (compared order (keys_of m) k)) →

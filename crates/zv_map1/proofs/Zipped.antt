@@ -59,9 +59,6 @@ module _ {usable_keys usable_values : Bool} {order : Order} {ks vs : List Bytes}
   pub keys_are : keys_of m.pairs ≡ ks
   keys_are = rw (← view) (firsts-zip ks vs c.count)
 
-  pub values_are : values_of m.pairs ≡ vs
-  values_are = rw (← view) (seconds-zip ks vs c.count)
-
   pub count_is : length m.pairs ≡ length ks
   count_is = rw (← view) (omega (arith, length-zip ks vs, c.count))
 

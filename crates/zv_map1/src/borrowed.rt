@@ -9,13 +9,12 @@ ghost use Rattle.zv_map.specs.Maps.{IsAt};
 ghost use Rattle.zv_ule.specs.Search.{AtMostDigits, IsGap, compared};
 ghost use Rattle.zv_ule.specs.Views.{element_of};
 
-use crate::search::{place_of, place_of_counted};
 use std::alloc::AllocError;
 use std::cmp::Ordering;
 use std::sync::ledger::Ledger;
 use zv_map::{
     KvSlice, ZeroMapCopied, ZeroMapCopiedValues, ZeroMapIter, ZeroMapKeys, ZeroMapValues,
-    ZeroVecLike, ZeroVecSearchBy,
+    ZeroVecLike, ZeroVecSearch, ZeroVecSearchBy,
 };
 use zv_ule::{AsULE, Steps, UsableKind, VarRef, ZvKind, ZvOrd, ZvOrdArg};
 
@@ -124,14 +123,14 @@ impl<'a, K: ZvOrd, V: ZvKind> ZeroMapBorrowed<'a, K, V> {
     }
 
     /// The place of the key, or where it would go.
-    #[tactic(auto, using(crate::proofs::Zipped::parts))]
-    fn place<Q: ZvOrdArg<K>>(self, key: &Q) -> Result<usize, usize>
+    #[inline(always)]
+    pub(crate) fn place<Q: ZvOrdArg<K>>(self, key: &Q) -> Result<usize, usize>
         requires { length (Q.bytes key.now) < 2 ^ 64 }
         ensures { MatchResult result
             (IsAt (compared K.cmp (keys_of (pairs_of self.entry)) (Q.bytes key.now)))
             (IsGap (compared K.cmp (keys_of (pairs_of self.entry)) (Q.bytes key.now))) }
     {
-        place_of(&self.keys, key)
+        self.keys.zvl_binary_search(key)
     }
 
     /// The same, with each comparison counted as a step.
@@ -148,7 +147,10 @@ impl<'a, K: ZvOrd, V: ZvKind> ZeroMapBorrowed<'a, K, V> {
         ensures digits { AtMostDigits (steps.new - steps.old) (length (pairs_of self.entry)) }
         ensures counted { steps.old ≤ steps.new }
     {
-        place_of_counted(&self.keys, key, steps)
+        let Some(place) = self.keys.zvl_search_counted(key, 0..self.keys.len(), steps) else {
+            unreachable!();
+        };
+        place
     }
 
     /// The value of the key, if there is one. It is one search, and takes no memory.

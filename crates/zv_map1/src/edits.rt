@@ -2,6 +2,8 @@
 ghost use Rattle.std.specs.Prelude.{◌≡◌, ◌+◌, ◌^◌, ◌<◌, ◌≤◌, ◌&&◌, ◌||◌, IfErr, IfOk, OnErr, OnOk};
 ghost use Rattle.std.specs.Prelude.{None, Some, is_ok, length, option_map, true};
 ghost use Rattle.std.specs.List.{remove};
+ghost use Rattle.std.specs.Result.{MatchResult};
+ghost use Rattle.zv_map.specs.Maps.{IsAt};
 ghost use Rattle.zv_map.specs.Refusals.{TooLargeUnless};
 ghost use Rattle.zv_map.specs.Reserved.{IsTaken};
 ghost use Rattle.zv_map.specs.declared.error.MapError.{MapError};
@@ -61,6 +63,16 @@ impl<
     }
 
     // ---- new pairs
+
+    /// The place of the key, or where it would go.
+    fn place<Q: ZvOrdArg<K>>(&self, key: &Q) -> Result<usize, usize>
+        requires { length (Q.bytes key.now) < 2 ^ 64 }
+        ensures { MatchResult result
+            (IsAt (compared K.cmp (keys_of self.now.pairs) (Q.bytes key.now)))
+            (IsGap (compared K.cmp (keys_of self.now.pairs) (Q.bytes key.now))) }
+    {
+        self.as_borrowed().place(key)
+    }
 
     /// Whether a new pair's key and value are taken by their lists.
     #[tactic(auto, using(crate::proofs::Zipped::parts))]

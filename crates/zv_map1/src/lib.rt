@@ -13,7 +13,6 @@ pub mod error;
 pub mod laws;
 pub mod map;
 mod room;
-mod search;
 
 pub use borrowed::ZeroMapBorrowed;
 pub use error::VecsError;

@@ -3,11 +3,10 @@ ghost use Rattle.std.specs.Prelude.{◌≡◌, ℕ, ◌==◌, ◌-◌, ◌^◌, 
 ghost use Rattle.std.specs.Prelude.{map, true};
 ghost use Rattle.std.specs.Prelude.{is_some, option_map};
 ghost use Rattle.std.specs.List.{AllByRecursion};
-ghost use Rattle.std.specs.Result.{MatchResult};
 ghost use Rattle.zv_map.specs.Iters.{copied_left, copied_values_left, elements_left, left_of};
-ghost use Rattle.zv_map.specs.Maps.{IsAt, IsMap};
+ghost use Rattle.zv_map.specs.Maps.{IsMap};
 ghost use Rattle.zv_map.specs.Views.{bytes_of, list_of};
-ghost use Rattle.zv_ule.specs.Search.{AtMostDigits, IsGap, compared};
+ghost use Rattle.zv_ule.specs.Search.{AtMostDigits};
 ghost use Rattle.zv_ule.specs.Views.{element_of};
 ghost use Rattle.zv_map1.specs.Borrowed.{pairs_of};
 ghost use Rattle.zv_map1.specs.Searches.{IsCopiedBy, IsFoundBy};
@@ -16,14 +15,13 @@ ghost use Rattle.zv_map1.specs.Views.{IsElementOf, keys_of, look_up, values_of};
 pub mod casts;
 
 use crate::borrowed::ZeroMapBorrowed;
-use crate::search::{place_of, place_of_counted};
 use std::cmp::Ordering;
 use std::marker::{Model, PhantomData};
 use std::sync::ledger::Ledger;
 use zv_map::laws::elements_are_valid;
 use zv_map::{
     KvSlice, ZeroMapCopied, ZeroMapCopiedValues, ZeroMapIter, ZeroMapKV, ZeroMapKeys,
-    ZeroMapValues, ZeroVecSearchBy, ZvContainer,
+    ZeroMapValues, ZvContainer,
 };
 use zv_ule::{AsULE, Steps, VarRef, ZvKind, ZvOrd, ZvOrdArg};
 
@@ -135,50 +133,17 @@ impl<K: ZvOrd, V: ZvKind, C: ZvContainer<K>, D: ZvContainer<V>> MapOver<K, V, C,
         ZeroMapBorrowed::of_valid(self.keys.zvl_as_borrowed(), self.values.zvl_as_borrowed())
     }
 
-    /// The place of the key, or where it would go.
-    #[tactic(auto, using(crate::proofs::Zipped::parts))]
-    pub(crate) fn place<Q: ZvOrdArg<K>>(&self, key: &Q) -> Result<usize, usize>
-        requires { length (Q.bytes key.now) < 2 ^ 64 }
-        ensures { MatchResult result
-            (IsAt (compared K.cmp (keys_of self.now.pairs) (Q.bytes key.now)))
-            (IsGap (compared K.cmp (keys_of self.now.pairs) (Q.bytes key.now))) }
-    {
-        place_of(&self.keys, key)
-    }
-
-    /// The same, with each comparison counted as a step.
-    #[tactic(auto, using(crate::proofs::Zipped::parts))]
-    fn place_counted<Q: ZvOrdArg<K>, L: Ledger>(
-        &self,
-        key: &Q,
-        steps: &mut Steps<L>,
-    ) -> Result<usize, usize>
-        requires { length (Q.bytes key.now) < 2 ^ 64 }
-        ensures place { MatchResult result
-            (IsAt (compared K.cmp (keys_of self.now.pairs) (Q.bytes key.now)))
-            (IsGap (compared K.cmp (keys_of self.now.pairs) (Q.bytes key.now))) }
-        ensures digits { AtMostDigits (steps.new - steps.old) (length self.now.pairs) }
-        ensures counted { steps.old ≤ steps.new }
-    {
-        place_of_counted(&self.keys, key, steps)
-    }
-
     /// The value of the key, if there is one. It is one search, and takes no memory.
-    #[tactic(auto, using(crate::proofs::Found::found))]
     pub fn get<Q: ZvOrdArg<K>>(&self, key: &Q) -> Option<VarRef<'_, V>>
         requires { length (Q.bytes key.now) < 2 ^ 64 }
         ensures { option_map element_of result
             ≡ look_up K.cmp self.now.pairs (Q.bytes key.now) }
     {
-        let Ok(at) = self.place(key) else {
-            return None;
-        };
-        self.values.zvl_get(at)
+        self.as_borrowed().get(key)
     }
 
     /// The value of the key, if there is one, with each comparison counted as a step: at most as
     /// many as the number of pairs has binary digits.
-    #[tactic(auto, using(crate::proofs::Found::found))]
     pub fn get_counted<Q: ZvOrdArg<K>, L: Ledger>(
         &self,
         key: &Q,
@@ -190,19 +155,15 @@ impl<K: ZvOrd, V: ZvKind, C: ZvContainer<K>, D: ZvContainer<V>> MapOver<K, V, C,
         ensures digits { AtMostDigits (steps.new - steps.old) (length self.now.pairs) }
         ensures counted { steps.old ≤ steps.new }
     {
-        let Ok(at) = self.place_counted(key, steps) else {
-            return None;
-        };
-        self.values.zvl_get(at)
+        self.as_borrowed().get_counted(key, steps)
     }
 
     /// Whether the key is there. It is one search.
-    #[tactic(auto, using(crate::proofs::Found::is_there))]
     pub fn contains_key<Q: ZvOrdArg<K>>(&self, key: &Q) -> bool
         requires { length (Q.bytes key.now) < 2 ^ 64 }
         ensures { result ≡ is_some (look_up K.cmp self.now.pairs (Q.bytes key.now)) }
     {
-        self.place(key).is_ok()
+        self.as_borrowed().contains_key(key)
     }
 
     /// The value of a key that is found by a predicate, which says how a key lies to what is
@@ -211,10 +172,7 @@ impl<K: ZvOrd, V: ZvKind, C: ZvContainer<K>, D: ZvContainer<V>> MapOver<K, V, C,
         requires { P.IsAlwaysCallable predicate }
         ensures { IsFoundBy P.FnMut predicate self.now.pairs (option_map element_of result) }
     {
-        let Ok(at) = self.keys.zvl_binary_search_by(predicate) else {
-            return None;
-        };
-        self.values.zvl_get(at)
+        self.as_borrowed().get_by(predicate)
     }
 
     /// The pairs, in the order of the keys.
@@ -256,8 +214,7 @@ impl<K: ZvOrd, V: AsULE, C: ZvContainer<K>, D: ZvContainer<V>> MapOver<K, V, C, 
         ensures { result ≡ option_map (λ b. V.loaded (V.ULE.value b))
             (look_up K.cmp self.now.pairs (Q.bytes key.now)) }
     {
-        let value = self.get(key)?;
-        Some(value.value())
+        self.as_borrowed().get_copied(key)
     }
 
     /// The value of a key that is found by a predicate, read into hand.
@@ -266,8 +223,7 @@ impl<K: ZvOrd, V: AsULE, C: ZvContainer<K>, D: ZvContainer<V>> MapOver<K, V, C, 
         ensures { IsCopiedBy P.FnMut predicate self.now.pairs (λ b. V.loaded (V.ULE.value b))
             result }
     {
-        let value = self.get_by(predicate)?;
-        Some(value.value())
+        self.as_borrowed().get_copied_by(predicate)
     }
 
     /// The pairs in order, the values read into hand.
@@ -276,7 +232,7 @@ impl<K: ZvOrd, V: AsULE, C: ZvContainer<K>, D: ZvContainer<V>> MapOver<K, V, C, 
         ensures { copied_values_left (λ b. V.loaded (V.ULE.value b)) result
             ≡ map (λ p. (p.0, V.loaded (V.ULE.value p.1))) self.now.pairs }
     {
-        self.iter().copied_values()
+        self.as_borrowed().iter_copied_values()
     }
 }
 
@@ -287,6 +243,6 @@ impl<K: AsULE + ZvOrd, V: AsULE, C: ZvContainer<K>, D: ZvContainer<V>> MapOver<K
         ensures { copied_left (λ b. K.loaded (K.ULE.value b)) (λ b. V.loaded (V.ULE.value b)) result
             ≡ map (λ p. (K.loaded (K.ULE.value p.0), V.loaded (V.ULE.value p.1))) self.now.pairs }
     {
-        self.iter().copied()
+        self.as_borrowed().iter_copied()
     }
 }
