@@ -15,7 +15,7 @@ use Rattle.zv_ule.specs.declared.error.UleError.{UleError}
 use Rattle.zv_var.specs.Format.{Part, elements, enc, list_fault}
 use Rattle.zv_var.specs.declared.error.VarZeroVecFormatError.{VarZeroVecFormatError}
 use Rattle.zv_var.proofs.Read.{Part_from_fault}
-use Rattle.zv_map.specs.Layouts.{field_width, is_fixed, list_in, spells_in, written}
+use Rattle.zv_map.specs.Layouts.{field_width, is_fixed, list_in, spells_in, encoding_in}
 use Rattle.zv_map.specs.declared.view.Layout.{Layout}
 use Rattle.zv_map.specs.declared.view.Layout.TheVariants.{Fixed, Index16, Index32}
 
@@ -80,7 +80,7 @@ module _ (w : ℕ) (K : List ℕ → Option UleError) (b : List ℕ) where
 
 -- ---- any layout
 
-pub written_none : (layout : Layout) → written layout [] ≡ []
+pub written_none : (layout : Layout) → encoding_in layout [] ≡ []
 written_none (Fixed w) = refl
 written_none Index16 = refl
 written_none Index32 = refl
@@ -88,14 +88,14 @@ written_none Index32 = refl
 module _ (K : List ℕ → Option UleError) (b : List ℕ) (each : IsBytes b) where
   -- bytes that spell a list that isn't empty are all that it is written as
   pub written_is : (layout : Layout) → IsTrue (spells_in layout K b) →
-      0 < length (list_in layout b) → b ≡ written layout (list_in layout b)
+      0 < length (list_in layout b) → b ≡ encoding_in layout (list_in layout b)
   written_is (Fixed w) h some = fixed_written w K b h
   written_is Index16 h some = encoding_is 2 K b (omega arith) each h some
   written_is Index32 h some = encoding_is 4 K b (omega arith) each h some
 
   -- what the list is written as has no fault
   pub written_spells : (layout : Layout) → IsTrue (spells_in layout K b) →
-      IsTrue (spells_in layout K (written layout (list_in layout b)))
+      IsTrue (spells_in layout K (encoding_in layout (list_in layout b)))
   written_spells (Fixed w) h =
       subst (λ c. IsTrue (spells_in (Fixed w) K c)) (fixed_written w K b h) h
   written_spells Index16 h = encoding_sound 2 K b (omega arith) each h
@@ -103,7 +103,7 @@ module _ (K : List ℕ → Option UleError) (b : List ℕ) (each : IsBytes b) wh
 
   -- and reads as the list
   pub written_reads : (layout : Layout) → IsTrue (spells_in layout K b) →
-      list_in layout (written layout (list_in layout b)) ≡ list_in layout b
+      list_in layout (encoding_in layout (list_in layout b)) ≡ list_in layout b
   written_reads (Fixed w) h = ap (chunks_of w) (sym (fixed_written w K b h))
   written_reads Index16 h = encoding_reads 2 K b (omega arith) each h
   written_reads Index32 h = encoding_reads 4 K b (omega arith) each h

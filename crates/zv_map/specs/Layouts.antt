@@ -23,10 +23,10 @@ spells_in Index16 fault bytes = is_none (list_fault 2 fault bytes)
 spells_in Index32 fault bytes = is_none (list_fault 4 fault bytes)
 
 -- the bytes that a list is written as in a layout: none where it is empty
-abbrev pub written : Layout → List (List ℕ) → List ℕ
-written (Fixed width) xs = concat xs
-written Index16 xs = enc 2 xs
-written Index32 xs = enc 4 xs
+abbrev pub encoding_in : Layout → List (List ℕ) → List ℕ
+encoding_in (Fixed width) xs = concat xs
+encoding_in Index16 xs = enc 2 xs
+encoding_in Index32 xs = enc 4 xs
 
 -- whether the layout is that of elements of so many bytes
 abbrev pub is_fixed : ℕ → Layout → Bool

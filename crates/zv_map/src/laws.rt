@@ -3,7 +3,7 @@ ghost use Rattle.std.specs.Prelude.{◌≡◌, ℕ, List, [], IsTrue, true};
 ghost use Rattle.std.specs.List.{AllByRecursion};
 ghost use Rattle.zv_ule.specs.Bytes.{IsBytes};
 ghost use Rattle.zv_map.specs.Keys.{IsElementOf};
-ghost use Rattle.zv_map.specs.Layouts.{list_in, spells_in, written};
+ghost use Rattle.zv_map.specs.Layouts.{encoding_in, list_in, spells_in};
 ghost use Rattle.zv_map.specs.Views.{list_of};
 ghost use Rattle.zv_map.specs.declared.view.Layout.{Layout};
 
@@ -21,13 +21,13 @@ pub fn spellings_are_read<T: ZvKind, C: ZvContainer<T>>()
     ensures elements { (layout : Layout) (bytes : List ℕ) → IsBytes bytes →
         IsTrue (spells_in layout T.fault bytes) →
         AllByRecursion (IsElementOf T.fault) (list_in layout bytes) }
-    ensures empty { (layout : Layout) → written layout [] ≡ [] }
+    ensures empty { (layout : Layout) → encoding_in layout [] ≡ [] }
     ensures sound { (layout : Layout) (bytes : List ℕ) → IsBytes bytes →
         IsTrue (spells_in layout T.fault bytes) →
-        IsTrue (spells_in layout T.fault (written layout (list_in layout bytes))) }
+        IsTrue (spells_in layout T.fault (encoding_in layout (list_in layout bytes))) }
     ensures list { (layout : Layout) (bytes : List ℕ) → IsBytes bytes →
         IsTrue (spells_in layout T.fault bytes) →
-        list_in layout (written layout (list_in layout bytes)) ≡ list_in layout bytes }
+        list_in layout (encoding_in layout (list_in layout bytes)) ≡ list_in layout bytes }
     ensures layout { (x : C) → C.has_layout (C.layout x) ≡ true }
 {}
 

@@ -10,7 +10,7 @@ ghost use Rattle.std.specs.Result.{result_err};
 ghost use Rattle.zv_ule.specs.Views.{element_of};
 ghost use Rattle.zv_ule.specs.declared.error.UleError.{UleError};
 ghost use Rattle.zv_owned.specs.Size.{takes_pushes};
-ghost use Rattle.zv_map.specs.Layouts.{list_in, spells_in, written};
+ghost use Rattle.zv_map.specs.Layouts.{list_in, spells_in, encoding_in};
 ghost use Rattle.zv_map.specs.Keys.{nth};
 ghost use Rattle.zv_map.specs.Refusals.{TooLargeUnless};
 ghost use Rattle.zv_map.specs.Reserved.{HasPlace, HasRoom, IsTaken, put_at, takes_put};
@@ -146,9 +146,9 @@ pub trait ZvContainer<T: ZvKind>: ZeroVecLike<T> {
     /// own: all of them, but none where the list is empty.
     #[inline]
     fn zvl_spelling(&self) -> &[u8]
-        ensures { result.now ≡ written (Self.layout self.now) (Self.list self.now) }
+        ensures { result.now ≡ encoding_in (Self.layout self.now) (Self.list self.now) }
     {
-        self.zvl_as_borrowed().written()
+        self.zvl_as_borrowed().encoding()
     }
 
     /// Whether the list takes one element more, of `len` bytes, by the container's size rule.
@@ -191,6 +191,7 @@ pub trait ZvContainer<T: ZvKind>: ZeroVecLike<T> {
         ensures owned { OnOk result (Self.owned self.new ≡ true) }
         ensures ready { OnOk result (Self.ready self.new ≡ true) }
         ensures room { OnOk result (additional * Self.element_room ≤ Self.spare self.new) }
+        ensures spare { Self.spare self.old ≤ Self.spare self.new }
         ensures err { OnErr result (self.new ≡ self.old) }
     {
         match additional.checked_mul(self.zvl_element_room()) {

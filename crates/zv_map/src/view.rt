@@ -9,7 +9,7 @@ ghost use Rattle.std.specs.Option.{option_map};
 ghost use Rattle.zv_ule.specs.Chunks.{chunks_of, first_fault};
 ghost use Rattle.zv_ule.specs.Fixed.{is_width};
 ghost use Rattle.zv_ule.specs.Views.{element_of};
-ghost use Rattle.zv_map.specs.Layouts.{list_in, spells_in, written};
+ghost use Rattle.zv_map.specs.Layouts.{list_in, spells_in, encoding_in};
 ghost use Rattle.zv_map.specs.Keys.{nth};
 
 use crate::vecs::ZeroVecLike;
@@ -116,10 +116,10 @@ fn chunk_element<T: ZvKind>(bytes: &[u8], width: usize, index: usize) -> Option<
 
 /// The bytes of a list that has an element, which are all that it is written as.
 #[inline]
-fn encoding<T: ZvKind>(_layout: Layout, bytes: &[u8]) -> &[u8]
+fn encoding_of<T: ZvKind>(_layout: Layout, bytes: &[u8]) -> &[u8]
     requires spells { IsTrue (spells_in _layout T.fault bytes.now) }
     requires some { 0 < length (list_in _layout bytes.now) }
-    ensures { result.now ≡ written _layout (list_in _layout bytes.now) }
+    ensures { result.now ≡ encoding_in _layout (list_in _layout bytes.now) }
 {
     bytes
 }
@@ -220,13 +220,13 @@ impl<'b, T: ZvKind> KvSlice<'b, T> {
     /// The bytes that the list is written as in the view's layout: all of them, but none where the
     /// list is empty.
     #[inline]
-    pub(crate) fn written(self) -> &'b [u8]
-        ensures { result.now ≡ written self.entry.layout (list_of self.entry) }
+    pub(crate) fn encoding(self) -> &'b [u8]
+        ensures { result.now ≡ encoding_in self.entry.layout (list_of self.entry) }
     {
         if self.is_empty() {
             &[]
         } else {
-            encoding::<T>(self.layout, self.bytes)
+            encoding_of::<T>(self.layout, self.bytes)
         }
     }
 
