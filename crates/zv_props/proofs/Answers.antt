@@ -1,0 +1,67 @@
+-- What a proper table answers.
+use Rattle.zv_props.proofs.Common.{◌≡◌, ℕ, zero, suc, ◌+◌, ◌-◌, ◌<◌, ◌≤◌, List, [], ◌∷◌, ◌++◌, length, take, drop, refl, sym, ◌∙◌, ap, arith, nat_tests, true, false, Bool}
+use Rattle.zv_props.proofs.Common.{BeginFrom, IsPlace, row_at, IsProper, IsRow, MayFollow, Row, has, value_at, drop-cons}
+use Rattle.std.proofs.Common.{add-one}
+use Rattle.std.proofs.lemmas.List.{take-append-drop}
+
+-- ---- rows that have a code point, or have not
+
+pub outside : (r : Row) (rows : List Row) (c : ℕ) → (r.0 ≤ c → c ≤ r.1 → ⊥) → value_at (r ∷ rows) c ≡ value_at rows c
+outside r rows c none = grind (arith, nat_tests)
+
+pub inside : (r : Row) (rows : List Row) (c : ℕ) → r.0 ≤ c → c ≤ r.1 → value_at (r ∷ rows) c ≡ r.2
+inside r rows c low high = grind (arith, nat_tests)
+
+-- rows that may follow a range begin behind it
+pub follow_from : (start value : ℕ) (rows : List Row) → MayFollow start value rows → BeginFrom start rows
+follow_from start value [] follows = tt
+follow_from start value (r ∷ rows) follows = follows.0
+
+-- a code point below all rows has no value
+pub none_below : (c start : ℕ) (rows : List Row) → c < start → IsProper rows → BeginFrom start rows → value_at rows c ≡ 0
+none_below c start [] lt proper from = refl
+none_below c start (r ∷ rows) lt proper from =
+    outside r rows c (λ low high. omega arith)
+    ∙ none_below c (r.1 + 1) rows (omega (arith, proper.0.order)) proper.2 (follow_from (r.1 + 1) r.2 rows proper.1)
+
+-- a row ends below those after it
+pub ends_below : (r : Row) (xs ys : List Row) (y : Row) → IsProper (r ∷ (xs ++ y ∷ ys)) → r.1 < y.0
+ends_below r [] ys y proper = omega (arith, proper.1.0)
+ends_below r (x ∷ xs) ys y proper = omega (arith, proper.1.0, proper.2.0.order, ends_below x xs ys y proper.2)
+
+-- the rows before one that begins at a code point or below haven't got it
+pub passed : (c : ℕ) (xs : List Row) (y : Row) (ys : List Row) → IsProper (xs ++ y ∷ ys) → y.0 ≤ c → value_at (xs ++ y ∷ ys) c ≡ value_at (y ∷ ys) c
+passed c [] y ys proper low = refl
+passed c (x ∷ xs) y ys proper low =
+    outside x (xs ++ y ∷ ys) c (λ first last. omega (arith, ends_below x xs ys y proper)) ∙ passed c xs y ys proper.2 low
+
+-- a table in three parts: the rows before a place, the row before it and the rows from it on
+pub parted : (rows : List Row) (place : ℕ) → 0 < place → place ≤ length rows → rows ≡ take (place - 1) rows ++ row_at rows (place - 1) ∷ drop place rows
+parted rows place some within =
+    let before : place - 1 < length rows = omega arith in
+    let next : suc (place - 1) ≡ place = omega arith in
+    sym (take-append-drop (place - 1) rows) ∙ ap (λ r. take (place - 1) rows ++ r) (drop-cons rows (place - 1) (0, 0, 0) before ∙ rw next refl)
+
+-- ---- the value by the place of a code point
+
+pub first_place : (rows : List Row) (c place : ℕ) → IsProper rows → IsPlace rows (c + 1) place → place ≡ 0 → value_at rows c ≡ 0
+first_place rows c place proper is none = none_below c (c + 1) rows (omega arith) proper (rw none at is.after)
+
+module _ (rows : List Row) (c place : ℕ) (proper : IsProper rows) (is : IsPlace rows (c + 1) place) (some : 0 < place) where
+  at_place : value_at rows c ≡ value_at (row_at rows (place - 1) ∷ drop place rows) c
+  at_place =
+      let three = parted rows place some is.within in
+      ap (λ r. value_at r c) three ∙ passed c _ _ _ (rw (← three) proper) (omega (arith, is.before some))
+
+  pub in_row : c ≤ (row_at rows (place - 1)).1 → value_at rows c ≡ (row_at rows (place - 1)).2
+  in_row high = at_place ∙ inside _ (drop place rows) c (omega (arith, is.before some)) high
+
+  pub past_row : (row_at rows (place - 1)).1 < c → IsProper (drop place rows) → value_at rows c ≡ 0
+  past_row low rest = at_place ∙ (outside _ (drop place rows) c (λ first last. omega arith) ∙ none_below c (c + 1) (drop place rows) (omega arith) rest is.after)
+
+pub proper_back : (xs ys : List Row) → IsProper (xs ++ ys) → IsProper ys
+proper_back [] ys proper = proper
+proper_back (x ∷ xs) ys proper = proper_back xs ys proper.2
+
+pub proper_drop : (n : ℕ) (rows : List Row) → IsProper rows → IsProper (drop n rows)
+proper_drop n rows proper = proper_back (take n rows) (drop n rows) (rw take-append-drop proper)

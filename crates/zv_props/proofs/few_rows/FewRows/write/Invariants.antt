@@ -1,0 +1,11 @@
+use Rattle.zv_props.proofs.Common.{◌≡◌, ◌*◌, length, take}
+use Rattle.std.specs.List.{AllByRecursion}
+use Rattle.zv_props.specs.Stored.{IsStored, table_bytes}
+use Rattle.zv_props.proofs.few_rows.FewRows.write.Given as goal
+
+abbrev pub invariant-loop-index : goal.invariant-loop-index
+invariant-loop-index l = record {
+  long : length l.out ≡ length l.rows * 10;
+  written : take (l.index * 10) l.out ≡ table_bytes (take l.index l.rows);
+  stored : AllByRecursion IsStored (take l.index l.rows);
+}

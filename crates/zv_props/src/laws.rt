@@ -1,0 +1,16 @@
+// The laws of tables, each the contract of a function that does nothing.
+ghost use Rattle.std.specs.Prelude.{◌≡◌};
+ghost use Rattle.zv_props.specs.Stored.{table_bytes};
+ghost use Rattle.zv_props.specs.Tables.{AnswerAlike, IsProper};
+
+use crate::table::Props;
+
+/// A table is proper, and tables that answer alike for every code point are the same bytes.
+pub fn one_table(first: &Props<'_>, second: &Props<'_>)
+    ensures proper { IsProper first.now }
+    ensures rows { AnswerAlike first.now second.now → first.now ≡ second.now }
+    ensures bytes { AnswerAlike first.now second.now →
+        table_bytes first.now ≡ table_bytes second.now }
+{
+    let (_first, _second) = (first.rows(), second.rows());
+}
