@@ -2,7 +2,7 @@
 use std::process::Abort;
 use zv_map::{ZeroMapKV, ZvContainer};
 use zv_map1::{MapOver, ZeroMapBorrowed};
-use zv_ule::StrULE;
+use zv_ule::{SliceULE, StrULE};
 
 type Of<'a, K> = <K as ZeroMapKV<'a>>::Container;
 
@@ -13,7 +13,7 @@ where
     D: ZvContainer<StrULE> + Drop,
 {
     assert!(rt; MapOver::<u32, StrULE, C, D>::default().is_empty());
-    assert!(rt; ZeroMapBorrowed::<'_, StrULE, u8>::default().is_empty());
+    assert!(rt; ZeroMapBorrowed::<'_, SliceULE<u8>, (u8, bool)>::default().is_empty());
 }
 
 #[test]
