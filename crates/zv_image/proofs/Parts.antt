@@ -5,7 +5,7 @@ use Rattle.zv_ule.specs.Bytes.{le}
 use Rattle.zv_var.specs.Frame.{framed}
 use Rattle.zv_map2d.specs.Frame.{frame}
 use Rattle.zv_map2d.specs.Views.{bytes_of}
-use Rattle.zv_map2d.specs.declared.parts.Parts.{Parts}
+use Rattle.zv_map2d.specs.declared.map.Parts.{Parts}
 use Rattle.zv_command.proofs.HexText.{encode_lower_append}
 
 pub in_two : (part : List ℕ) → encode_lower (framed part) ≡ encode_lower (le 8 (length part)) ++ encode_lower part

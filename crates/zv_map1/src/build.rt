@@ -11,7 +11,6 @@ ghost use Rattle.zv_map1.specs.Room.{CanGrowBy, IsSameMap, KeepsRoom};
 use crate::borrowed::ZeroMapBorrowed;
 use crate::error::VecsError;
 use crate::map::MapOver;
-use crate::room::room_of;
 use std::alloc::Global;
 use std::marker::PhantomData;
 use zv_map::{MutableZeroVecLike, ZeroVecSearch, ZvContainer};
@@ -121,9 +120,8 @@ impl<
         ensures room { OnOk result (CanGrowBy (additional * C.element_room)
             (additional * D.element_room) self.new) }
     {
-        let keys = room_of(additional, self.keys.zvl_element_room())?;
-        let values = room_of(additional, self.values.zvl_element_room())?;
-        self.reserve_bytes(alloc, keys, values)
+        self.keys.zvl_reserve(alloc, additional)?;
+        self.values.zvl_reserve(alloc, additional)
     }
 
     /// A map with the same pairs, bytes, layouts and variants of its vectors.

@@ -15,10 +15,17 @@ ghost use Rattle.zv_map1.specs.Views.{insert_entry, keys_of, look_up, nth, set_v
 ghost use Rattle.zv_map1.specs.Views.{without_key};
 
 use crate::map::MapOver;
-use crate::room::with_field;
 use std::alloc::Global;
 use zv_map::{MapError, MutableZeroVecLike};
 use zv_ule::{NoMemory, ZvArg, ZvKind, ZvOrd, ZvOrdArg};
+
+/// The length of an element with its field. Memory has fewer than 2^64 bytes.
+#[inline]
+fn with_field(length: usize, field: usize) -> Result<usize, NoMemory>
+    ensures { IfOk result (λ bytes. bytes ≡ length + field) }
+{
+    length.checked_add(field).ok_or(NoMemory)
+}
 
 impl<
     'a,
@@ -30,12 +37,7 @@ impl<
     // ---- room
 
     /// Makes both vectors own their bytes, with so many to spare.
-    pub(crate) fn reserve_bytes(
-        &mut self,
-        alloc: Global,
-        keys: usize,
-        values: usize,
-    ) -> Result<(), NoMemory>
+    fn reserve_bytes(&mut self, alloc: Global, keys: usize, values: usize) -> Result<(), NoMemory>
         ensures same { IsSameMap self.old self.new }
         ensures ok { OnOk result (CanGrowBy keys values self.new) }
     {

@@ -12,7 +12,6 @@ mod edits;
 pub mod error;
 pub mod laws;
 pub mod map;
-mod room;
 
 pub use borrowed::ZeroMapBorrowed;
 pub use error::VecsError;

@@ -16,8 +16,8 @@ pub use Rattle.zv_ule.specs.Bytes.{IsBytes, le, number}
 pub use Rattle.zv_ule.specs.Search.{compared, Found, IsGap, ComesToEqual, answer_at, AtMostDigits}
 pub use Rattle.zv_fixed.specs.Iters.{left_of}
 pub use Rattle.zv_var.specs.Format.{pieces, elements, list_fault, Part}
-pub use Rattle.zv_map.proofs.Places.{compared_range, placed, IsMap-insert_entry, IsMap-without_key, values_with, values_without, at_within, gap_within, look_up_at}
-pub use Rattle.zv_map.proofs.Places.{look_up_gap, rank_at, insert_entry_at, insert_entry_gap, without_key_at, without_key_gap, entry_at, entry_gap}
+pub use Rattle.zv_map.proofs.Places.{compared_range, placed, IsMap-insert_entry, IsMap-without_key, values_with, values_without, at_within, look_up_at}
+pub use Rattle.zv_map.proofs.Places.{gap_within, look_up_gap, rank_at, insert_entry_at, insert_entry_gap, without_key_at, without_key_gap, entry_at, entry_gap}
 pub use Rattle.zv_map.specs.Maps.{IsAt, IsMap, keys_of, values_of, look_up, insert_entry, set_value_at, without_key}
 pub use Rattle.zv_map2d.specs.Appending.{last_key, Triple, first_refusal, is_above_key, put_all, written}
 pub use Rattle.zv_map2d.specs.Borrowed.{rows_in}

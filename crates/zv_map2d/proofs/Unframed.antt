@@ -12,7 +12,7 @@ use Rattle.zv_var.proofs.Read.{Part_from_fault, valid_from_fault}
 use Rattle.zv_var.specs.Frame.{framed, first_part}
 use Rattle.zv_var.specs.Laws.{AreValid}
 use Rattle.zv_map2d.specs.Frame.{Parts, frame, unframe}
-use Rattle.zv_map.specs.Layouts.{field_width, written}
+use Rattle.zv_map.specs.Layouts.{field_width, encoding_in}
 use Rattle.zv_map.specs.declared.view.Layout.{Layout}
 use Rattle.zv_map.specs.declared.view.Layout.TheVariants.{Fixed, Index16, Index32}
 use Rattle.zv_var.specs.Format.{enc}
@@ -85,7 +85,7 @@ parts_stand image p h bytes e =
     }
 
 -- a layout with fields of two bytes is one
-narrow_written : (layout : Layout) (xs : List Bytes) → (field_width layout == 2) ≡ true → written layout xs ≡ enc 2 xs
+narrow_written : (layout : Layout) (xs : List Bytes) → (field_width layout == 2) ≡ true → encoding_in layout xs ≡ enc 2 xs
 narrow_written (Fixed w) xs e = cc
 narrow_written Index16 xs e = refl
 narrow_written Index32 xs e = cc

@@ -7,10 +7,10 @@ use Rattle.zv_map2d.specs.Frame.{Parts}
 use Rattle.zv_map2d.specs.Keys.{Bytes, Order, nth}
 use Rattle.zv_map2d.specs.Rows.{Rows, firsts, seconds, values, ends, rows_of, row_at, IsFlat}
 use Rattle.zv_map2d.specs.Rows.{IsWell}
-use Rattle.zv_map.specs.Layouts.{list_in, spells_in, written}
+use Rattle.zv_map.specs.Layouts.{list_in, spells_in, encoding_in}
 pub use Rattle.zv_map.specs.Vectors.{Vector, KeepsItsRoom}
 use Rattle.zv_map.specs.declared.view.Layout.{Layout}
-use Rattle.zv_map2d.specs.declared.parts.Parts.{Parts as PartsRead}
+use Rattle.zv_map2d.specs.declared.map.Parts.{Parts as PartsRead}
 
 -- a map: its rows, and its vectors
 pub record Map2d : Type 0 where
@@ -116,7 +116,8 @@ written_parts write0 write1 write2 m = record {
 -- the parts of a map whose lists are written in the layouts that they have
 abbrev pub written_of : Map2d → Parts
 written_of m =
-    written_parts (written m.keys0.layout) (written m.keys1.layout) (written m.values.layout) m.rows
+    written_parts (encoding_in m.keys0.layout) (encoding_in m.keys1.layout)
+    (encoding_in m.values.layout) m.rows
 
 -- four lists of elements of usable kinds are those of the map that they stand for, which is well
 -- formed

@@ -8,8 +8,7 @@ ghost use Rattle.zv_map2d.specs.Image.{Stands, fault};
 ghost use Rattle.zv_map2d.specs.Views.{IsBorrowed, bytes_of, parts_of};
 
 use crate::error::EditError;
-use crate::map::ZeroMap2d;
-use crate::parts::Parts;
+use crate::map::{Parts, ZeroMap2d};
 use zv_ule::{SliceULE, StrULE};
 use zv_var::frame::take_part;
 

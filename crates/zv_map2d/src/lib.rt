@@ -15,7 +15,6 @@ pub mod image;
 pub mod laws;
 pub mod map;
 mod parse;
-pub mod parts;
 pub mod place;
 pub mod rows;
 
@@ -23,7 +22,6 @@ pub use borrowed::ZeroMap2dBorrowed;
 pub use cursor::{Iter1, Iter1Copied, ZeroMap2dCursor};
 pub use error::{EditError, Map2dError};
 pub use image::{ImageMap, cut_parts, parse_image};
-pub use map::{Map2dOver, ZeroMap2d};
-pub use parts::Parts;
+pub use map::{Map2dOver, Parts, ZeroMap2d};
 pub use place::Place;
 pub use rows::ZeroMap2dIter0;

@@ -14,12 +14,24 @@ mod edits;
 mod reads;
 mod room;
 
-use crate::parts::Parts;
 use std::marker::{Model, PhantomData};
 use zv_fixed::ZeroVec;
 use zv_map::laws::elements_are_valid;
 use zv_map::{ZeroMapKV, ZvContainer};
 use zv_ule::{UsableKind, ZvKind, ZvOrd};
+
+/// The bytes of the four vectors of a map.
+#[derive(Clone, Copy, Debug, PartialEq, Eq)]
+pub struct Parts<'a> {
+    /// The first keys.
+    pub keys0: &'a [u8],
+    /// Where each row ends among the second keys: numbers of four bytes, the lowest first.
+    pub joiner: &'a [u8],
+    /// The second keys, row after row.
+    pub keys1: &'a [u8],
+    /// The values, row after row.
+    pub values: &'a [u8],
+}
 
 /// A map in two levels, over the containers of its first keys, its second keys and its values.
 ///
@@ -187,7 +199,7 @@ impl<
     pub fn rows(&self) -> usize
         ensures { result ≡ length self.now.rows }
     {
-        self.keys0.zvl_len()
+        self.as_borrowed().rows()
     }
 
     /// How many pairs of keys there are. It reads a count.
@@ -195,7 +207,7 @@ impl<
     pub fn len(&self) -> usize
         ensures { result ≡ length (seconds self.now.rows) }
     {
-        self.keys1.zvl_len()
+        self.as_borrowed().len()
     }
 
     /// Whether there is no pair.

@@ -71,17 +71,11 @@ impl<
         ensures room { OnOk result (CanGrowBy (additional * C0.element_room) (additional * 4)
             (additional * C1.element_room) (additional * D.element_room) self.new) }
     {
-        let keys0 = additional
-            .checked_mul(self.keys0.zvl_element_room())
-            .ok_or(NoMemory)?;
         let ends = additional.checked_mul(4).ok_or(NoMemory)?;
-        let keys1 = additional
-            .checked_mul(self.keys1.zvl_element_room())
-            .ok_or(NoMemory)?;
-        let values = additional
-            .checked_mul(self.values.zvl_element_room())
-            .ok_or(NoMemory)?;
-        self.reserve_bytes(alloc, keys0, ends, keys1, values)
+        self.keys0.zvl_reserve(alloc, additional)?;
+        self.joiner.reserve_bytes(alloc, ends)?;
+        self.keys1.zvl_reserve(alloc, additional)?;
+        self.values.zvl_reserve(alloc, additional)
     }
 
     /// Makes every vector own its bytes, so that [`discard`](Self::discard) may be called.

@@ -15,10 +15,10 @@ returns-clause-value g c =
 
 pub returns-in_default-pair_place_counted-clause-digits : goal.returns-in_default-pair_place_counted-clause-digits
 returns-in_default-pair_place_counted-clause-digits g c =
-    searches_in_row g.met.K0.ZvOrd.total g.met.K1.ZvOrd.total _ _ _ c.in-Ok.ensures.place _ _ _ c.row_place_counted.ensures.counted c.pair_place_counted.ensures.counted
-    c.row_place_counted.ensures.digits c.pair_place_counted.ensures.digits
+    searches_in_row g.met.K0.ZvOrd.total g.met.K1.ZvOrd.total _ _ _ c.in-Ok.ensures.place _ _ _ c.row_place_counted.ensures.counted
+    c.pair_place_counted.ensures.counted c.row_place_counted.ensures.digits c.pair_place_counted.ensures.digits
 
 pub returns-clause-digits : goal.returns-clause-digits
 returns-clause-digits g c =
-    searches_in_row g.met.K0.ZvOrd.total g.met.K1.ZvOrd.total _ _ _ c.in-Ok.ensures.place _ _ _ c.row_place_counted.ensures.counted c.pair_place_counted.ensures.counted
-    c.row_place_counted.ensures.digits c.pair_place_counted.ensures.digits
+    searches_in_row g.met.K0.ZvOrd.total g.met.K1.ZvOrd.total _ _ _ c.in-Ok.ensures.place _ _ _ c.row_place_counted.ensures.counted
+    c.pair_place_counted.ensures.counted c.row_place_counted.ensures.digits c.pair_place_counted.ensures.digits

@@ -1,9 +1,13 @@
-use Rattle.zv_map2d.proofs.Common.{rules, refl, sym, ◌∙◌, ap, rule_of, Some, Pair}
+use Rattle.zv_map2d.proofs.Common.{rules, refl, sym, ◌∙◌, ap, Rule, rule_of, Some, Pair}
 use Rattle.zv_map2d.proofs.Places.{find_is, fits_is, nothing_there, pair_there, put_is}
 use Rattle.zv_map2d.proofs.Seen.{columns, pair_stands, same_lists, seen, seen_well, view_of}
 use Rattle.zv_map2d.proofs.Splices.{value_set}
 use Rattle.zv_map2d.proofs.Well.{put_at_well}
+use Rattle.zv_map2d.proofs.map.Map2dOver.insert_at.Given as given
 use Rattle.zv_map2d.proofs.map.Map2dOver.insert_at.Goals as goal
+
+abbrev rule : given.Over → Rule
+rule g = rule_of g.C0.ZvContainer.takes_insert g.C1.ZvContainer.takes_insert g.D.ZvContainer.takes_insert g.D.ZvContainer.takes_replace
 
 pub zvl_replace-requires : goal.zvl_replace-requires
 zvl_replace-requires g c κs =
@@ -36,17 +40,19 @@ returns-in-Pair-clause-stays g c = rw (← c.self.view_is) (search rules)
 
 pub returns-in-Pair-clause-refused : goal.returns-in-Pair-clause-refused
 returns-in-Pair-clause-refused g c =
-    let rule = rule_of g.C0.ZvContainer.takes_insert g.C1.ZvContainer.takes_insert g.D.ZvContainer.takes_insert g.D.ZvContainer.takes_replace in
     let at = rw c.in-Pair.is at c.requires.place in
     let taken = rw ((seen c.self.view_is c.self.invariant).values_are, c.pair_start-at.ensures) at c.in_ok-old.ensures.refused in
     let found = find_is g.met.K0.ZvOrd.total g.met.K1.ZvOrd.total _ _ _ (Pair _ _) at in
-    (fits_is g.met.K0.ZvOrd.total g.met.K1.ZvOrd.total _ _ _ rule _ (Pair _ _) at ∙ taken, rw found refl)
+    (fits_is g.met.K0.ZvOrd.total g.met.K1.ZvOrd.total _ _ _ (rule g) _ (Pair _ _) at ∙ taken, rw found refl)
 
 pub returns-in_err-old-clause-refused : goal.returns-in_err-old-clause-refused
 returns-in_err-old-clause-refused g c =
-    let rule = rule_of g.C0.ZvContainer.takes_insert g.C1.ZvContainer.takes_insert g.D.ZvContainer.takes_insert g.D.ZvContainer.takes_replace in
     let at = rw c.in-Pair.is at c.requires.place in
-    rw (fits_is g.met.K0.ZvOrd.total g.met.K1.ZvOrd.total _ _ _ rule (g.R.ZvArg.bytes c.args.value.now) (Pair _ _) at, find_is g.met.K0.ZvOrd.total g.met.K1.ZvOrd.total _ _ _ (Pair _ _) at) (search rules)
+    rw (
+      fits_is g.met.K0.ZvOrd.total g.met.K1.ZvOrd.total _ _ _ (rule g) (g.R.ZvArg.bytes c.args.value.now) (Pair _ _) at,
+      find_is g.met.K0.ZvOrd.total
+          g.met.K1.ZvOrd.total _ _ _ (Pair _ _) at,
+    ) (search rules)
 
 pub returns-in_err-reserve_for-clause-refused : goal.returns-in_err-reserve_for-clause-refused
 returns-in_err-reserve_for-clause-refused g c =
@@ -57,7 +63,8 @@ pub returns-clause-rows : goal.returns-clause-rows
 returns-clause-rows g c = rw c.in_ok-reserve_for.ensures.same.rows at c.put_at.ensures.rows
 
 pub returns-clause-before : goal.returns-clause-before
-returns-clause-before g c = sym (find_is g.met.K0.ZvOrd.total g.met.K1.ZvOrd.total _ _ _ _ c.requires.place ∙ nothing_there c.args.self.now.rows _ c.in_default.not-Pair)
+returns-clause-before g c = sym (find_is g.met.K0.ZvOrd.total g.met.K1.ZvOrd.total _ _ _ _ c.requires.place ∙ nothing_there c.args.self.now.rows _
+    c.in_default.not-Pair)
 
 pub returns-clause-refused : goal.returns-clause-refused
 returns-clause-refused g c =

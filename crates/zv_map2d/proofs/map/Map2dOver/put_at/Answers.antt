@@ -1,11 +1,15 @@
-use Rattle.zv_map2d.proofs.Common.{rules, refl, arith, sym, ◌∙◌, length, ap, gap_within, rule_of, Pair, InRow, NewRow}
+use Rattle.zv_map2d.proofs.Common.{rules, refl, arith, sym, ◌∙◌, length, ap, gap_within, Rule, rule_of, Pair, InRow, NewRow}
 use Rattle.std.proofs.lemmas.Bool.{and_parts}
 use Rattle.zv_map2d.proofs.Places.{gap_there, pair_there, put_is, taken_there}
 use Rattle.zv_map2d.proofs.Seen.{columns, ends_below, ends_count, few_more, one_more, pair_goes, pair_stands, row_goes, same_lists, seen, seen_well}
 use Rattle.zv_map2d.proofs.Seen.{view_of}
 use Rattle.zv_map2d.proofs.Splices.{pair_added, row_added, row_starts, shift_count, value_set}
 use Rattle.zv_map2d.proofs.Well.{put_at_well}
+use Rattle.zv_map2d.proofs.map.Map2dOver.put_at.Given as given
 use Rattle.zv_map2d.proofs.map.Map2dOver.put_at.Goals as goal
+
+abbrev rule : given.Over → Rule
+rule g = rule_of g.C0.ZvContainer.takes_insert g.C1.ZvContainer.takes_insert g.D.ZvContainer.takes_insert g.D.ZvContainer.takes_replace
 
 -- ---- another value
 
@@ -16,8 +20,7 @@ zvl_replace_reserved-requires-clause-place g c =
 
 pub zvl_replace_reserved-requires-clause-taken : goal.zvl_replace_reserved-requires-clause-taken
 zvl_replace_reserved-requires-clause-taken g c =
-    let rule = rule_of g.C0.ZvContainer.takes_insert g.C1.ZvContainer.takes_insert g.D.ZvContainer.takes_insert g.D.ZvContainer.takes_replace in
-    let taken = taken_there g.met.K0.ZvOrd.total g.met.K1.ZvOrd.total _ (g.Q0.ZvArg.bytes c.args.key0.now) (g.Q1.ZvArg.bytes c.args.key1.now) rule
+    let taken = taken_there g.met.K0.ZvOrd.total g.met.K1.ZvOrd.total _ (g.Q0.ZvArg.bytes c.args.key0.now) (g.Q1.ZvArg.bytes c.args.key1.now) (rule g)
     (g.R.ZvArg.bytes c.args.value.now) (Pair _ _) (rw c.in-Pair.is at c.requires.place) c.requires.fits in
     record { taken = rw ((seen c.self.view_is c.self.invariant).values_are, c.pair_start-at.ensures) taken }
 
@@ -50,8 +53,7 @@ zvl_insert_reserved-requires-clause-place g c =
 
 pub zvl_insert_reserved-requires-clause-taken : goal.zvl_insert_reserved-requires-clause-taken
 zvl_insert_reserved-requires-clause-taken g c =
-    let rule = rule_of g.C0.ZvContainer.takes_insert g.C1.ZvContainer.takes_insert g.D.ZvContainer.takes_insert g.D.ZvContainer.takes_replace in
-    let taken = taken_there g.met.K0.ZvOrd.total g.met.K1.ZvOrd.total _ (g.Q0.ZvArg.bytes c.args.key0.now) (g.Q1.ZvArg.bytes c.args.key1.now) rule
+    let taken = taken_there g.met.K0.ZvOrd.total g.met.K1.ZvOrd.total _ (g.Q0.ZvArg.bytes c.args.key0.now) (g.Q1.ZvArg.bytes c.args.key1.now) (rule g)
     (g.R.ZvArg.bytes c.args.value.now) (InRow _ _) (rw c.in-InRow.is at c.requires.place) c.requires.fits in
     record { taken = rw (seen c.self.view_is c.self.invariant).seconds_are (and_parts _ _ taken).0 }
 
@@ -62,8 +64,7 @@ zvl_insert_reserved-requires-in-InRow-clause-place g c =
 
 pub zvl_insert_reserved-requires-in-InRow-clause-taken : goal.zvl_insert_reserved-requires-in-InRow-clause-taken
 zvl_insert_reserved-requires-in-InRow-clause-taken g c =
-    let rule = rule_of g.C0.ZvContainer.takes_insert g.C1.ZvContainer.takes_insert g.D.ZvContainer.takes_insert g.D.ZvContainer.takes_replace in
-    let taken = taken_there g.met.K0.ZvOrd.total g.met.K1.ZvOrd.total _ (g.Q0.ZvArg.bytes c.args.key0.now) (g.Q1.ZvArg.bytes c.args.key1.now) rule
+    let taken = taken_there g.met.K0.ZvOrd.total g.met.K1.ZvOrd.total _ (g.Q0.ZvArg.bytes c.args.key0.now) (g.Q1.ZvArg.bytes c.args.key1.now) (rule g)
     (g.R.ZvArg.bytes c.args.value.now) (InRow _ _) (rw c.in-InRow.is at c.requires.place) c.requires.fits in
     record { taken = rw (seen c.self.view_is c.self.invariant).values_are (and_parts _ _ taken).1 }
 
@@ -94,8 +95,7 @@ returns-in-InRow g c =
 
 pub zvl_insert_reserved-requires-in-NewRow-clause-taken : goal.zvl_insert_reserved-requires-in-NewRow-clause-taken
 zvl_insert_reserved-requires-in-NewRow-clause-taken g c =
-    let rule = rule_of g.C0.ZvContainer.takes_insert g.C1.ZvContainer.takes_insert g.D.ZvContainer.takes_insert g.D.ZvContainer.takes_replace in
-    let taken = taken_there g.met.K0.ZvOrd.total g.met.K1.ZvOrd.total _ (g.Q0.ZvArg.bytes c.args.key0.now) (g.Q1.ZvArg.bytes c.args.key1.now) rule
+    let taken = taken_there g.met.K0.ZvOrd.total g.met.K1.ZvOrd.total _ (g.Q0.ZvArg.bytes c.args.key0.now) (g.Q1.ZvArg.bytes c.args.key1.now) (rule g)
     (g.R.ZvArg.bytes c.args.value.now) (NewRow _) (rw c.in-NewRow.is at c.requires.place) c.requires.fits in
     record { taken = rw (seen c.self.view_is c.self.invariant).firsts_are (and_parts _ _ taken).0 }
 
@@ -105,8 +105,7 @@ zvl_insert_reserved-requires-in-NewRow-2-clause-place g c =
 
 pub zvl_insert_reserved-requires-in-NewRow-2-clause-taken : goal.zvl_insert_reserved-requires-in-NewRow-2-clause-taken
 zvl_insert_reserved-requires-in-NewRow-2-clause-taken g c =
-    let rule = rule_of g.C0.ZvContainer.takes_insert g.C1.ZvContainer.takes_insert g.D.ZvContainer.takes_insert g.D.ZvContainer.takes_replace in
-    let taken = taken_there g.met.K0.ZvOrd.total g.met.K1.ZvOrd.total _ (g.Q0.ZvArg.bytes c.args.key0.now) (g.Q1.ZvArg.bytes c.args.key1.now) rule
+    let taken = taken_there g.met.K0.ZvOrd.total g.met.K1.ZvOrd.total _ (g.Q0.ZvArg.bytes c.args.key0.now) (g.Q1.ZvArg.bytes c.args.key1.now) (rule g)
     (g.R.ZvArg.bytes c.args.value.now) (NewRow _) (rw c.in-NewRow.is at c.requires.place) c.requires.fits in
     record { taken = rw (seen c.self.view_is c.self.invariant).seconds_are (and_parts _ _ (and_parts _ _ taken).1).0 }
 
@@ -116,8 +115,7 @@ zvl_insert_reserved-requires-in-NewRow-3-clause-place g c =
 
 pub zvl_insert_reserved-requires-in-NewRow-3-clause-taken : goal.zvl_insert_reserved-requires-in-NewRow-3-clause-taken
 zvl_insert_reserved-requires-in-NewRow-3-clause-taken g c =
-    let rule = rule_of g.C0.ZvContainer.takes_insert g.C1.ZvContainer.takes_insert g.D.ZvContainer.takes_insert g.D.ZvContainer.takes_replace in
-    let taken = taken_there g.met.K0.ZvOrd.total g.met.K1.ZvOrd.total _ (g.Q0.ZvArg.bytes c.args.key0.now) (g.Q1.ZvArg.bytes c.args.key1.now) rule
+    let taken = taken_there g.met.K0.ZvOrd.total g.met.K1.ZvOrd.total _ (g.Q0.ZvArg.bytes c.args.key0.now) (g.Q1.ZvArg.bytes c.args.key1.now) (rule g)
     (g.R.ZvArg.bytes c.args.value.now) (NewRow _) (rw c.in-NewRow.is at c.requires.place) c.requires.fits in
     record { taken = rw (seen c.self.view_is c.self.invariant).values_are (and_parts _ _ (and_parts _ _ taken).1).1 }
 

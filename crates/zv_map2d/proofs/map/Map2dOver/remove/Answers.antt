@@ -26,17 +26,22 @@ zvl_get_owned-requires g c =
 
 pub returns-in_err-old-clause-absent : goal.returns-in_err-old-clause-absent
 returns-in_err-old-clause-absent g c none =
-    let found = find_is g.met.K0.ZvOrd.total g.met.K1.ZvOrd.total _ _ _ (Pair _ _) (rw (c.in-Pair.is, c.as_borrowed-view.ensures.rows) at c.place-place.ensures) in cc
+    let found = find_is g.met.K0.ZvOrd.total g.met.K1.ZvOrd.total _ _ _ (Pair _ _)
+    (rw (c.in-Pair.is, c.as_borrowed-view.ensures.rows) at c.place-place.ensures) in cc
 
 pub returns-in_err-make_owned-clause-absent : goal.returns-in_err-make_owned-clause-absent
 returns-in_err-make_owned-clause-absent g c none =
-    let found = find_is g.met.K0.ZvOrd.total g.met.K1.ZvOrd.total _ _ _ (Pair _ _) (rw (c.in-Pair.is, c.as_borrowed-view.ensures.rows) at c.place-place.ensures) in cc
+    let found = find_is g.met.K0.ZvOrd.total g.met.K1.ZvOrd.total _ _ _ (Pair _ _)
+    (rw (c.in-Pair.is, c.as_borrowed-view.ensures.rows) at c.place-place.ensures) in cc
 
 pub returns-clause-before : goal.returns-clause-before
 returns-clause-before g c =
-    let found = find_is g.met.K0.ZvOrd.total g.met.K1.ZvOrd.total _ _ _ (Pair _ _) (rw (c.in-Pair.is, c.as_borrowed-view.ensures.rows) at c.place-place.ensures) in
-    ap Some (rw ((seen c.self.view_is c.self.invariant).values_are, c.pair_start-at.ensures, c.as_borrowed-view.ensures.rows) at c.in_ok-old.ensures) ∙ sym found
+    let found = find_is g.met.K0.ZvOrd.total g.met.K1.ZvOrd.total _ _ _ (Pair _ _)
+    (rw (c.in-Pair.is, c.as_borrowed-view.ensures.rows) at c.place-place.ensures) in
+    ap Some (rw ((seen c.self.view_is c.self.invariant).values_are, c.pair_start-at.ensures, c.as_borrowed-view.ensures.rows) at c.in_ok-old.ensures) ∙ sym
+    found
 
 pub returns-clause-absent : goal.returns-clause-absent
 returns-clause-absent g c none =
-    let found = find_is g.met.K0.ZvOrd.total g.met.K1.ZvOrd.total _ _ _ (Pair _ _) (rw (c.in-Pair.is, c.as_borrowed-view.ensures.rows) at c.place-place.ensures) in cc
+    let found = find_is g.met.K0.ZvOrd.total g.met.K1.ZvOrd.total _ _ _ (Pair _ _)
+    (rw (c.in-Pair.is, c.as_borrowed-view.ensures.rows) at c.place-place.ensures) in cc

@@ -1,6 +1,0 @@
-use Rattle.zv_map2d.proofs.Common.{◌∙◌}
-use Rattle.zv_map2d.proofs.Seen.{seconds_count, seen}
-use Rattle.zv_map2d.proofs.map.Map2dOver.len.Goals as goal
-
-pub returns : goal.returns
-returns g c = c.zvl_len.ensures ∙ seconds_count (seen c.self.view_is c.self.invariant)
