@@ -10,7 +10,7 @@ use Rattle.zv_ule.specs.declared.error.UleError.{UleError}
 use Rattle.zv_var.proofs.Encoding.{has_starts, length-starts_from, read_lengthless}
 use Rattle.zv_var.proofs.Fields.{length-flat_map-le}
 use Rattle.zv_var.specs.Format.{elements_after, fault_after, starts, starts_from}
-use Rattle.zv_var.specs.Laws.{AreValid}
+use Rattle.zv_var.specs.Laws.{AreValid, HasStarts}
 use Rattle.zv_var.specs.Serialize.{lengthless}
 use Rattle.zv_multi.specs.Records.{encoded_len, fields_fault, no_fault, offsets, offsets_from, record_fault, record_len}
 
@@ -43,6 +43,12 @@ some_len w ls m h = (grind arith, grind arith)
 pub fitting : (w : ℕ) (fits : List Bool) (xs : List (List ℕ)) → is_some (record_len w fits xs) ≡ true → record_len w fits xs ≡ Some (length (lengthless w xs))
 fitting w fits xs h = let l = length-lengthless w xs in let n = length-map xs length in grind arith
 
+pub fitting_starts : (w : ℕ) (fits : List Bool) (xs : List (List ℕ)) → 256 ^ w ≤ 2 ^ 32 → is_some (record_len w fits xs) ≡ true → HasStarts w xs
+fitting_starts w fits xs narrow fit =
+    let l = length-lengthless w xs in
+    let k = length-map xs length in
+    has_starts w xs narrow (grind arith)
+
 -- n values that fit, and how long their spellings are
 module _ (w n : ℕ) (fits : List Bool) (xs : List (List ℕ)) (ls : List ℕ) (is : ls ≡ map length xs) (many : length ls ≡ n)
     (fit : is_some (record_len w fits xs) ≡ true) where
@@ -64,9 +70,7 @@ module _ (w n : ℕ) (fits : List Bool) (xs : List (List ℕ)) (ls : List ℕ) (
   -- a record of values is read as their spellings
   pub read_record : 256 ^ w ≤ 2 ^ 32 → (elements_after w n (lengthless w xs) ≡ xs) × (fault_after w no_fault n (lengthless w xs) ≡ None)
   read_record narrow =
-      let l = length-lengthless w xs in
-      let k = length-map xs length in
-      let r = read_lengthless w xs (has_starts w xs narrow (grind arith)) in
+      let r = read_lengthless w xs (fitting_starts w fits xs narrow fit) in
       rw (← count_is) (r.0, r.1 no_fault (all_valid xs))
 
   pub sound : (Ks : List (List ℕ → Option UleError)) → 256 ^ w ≤ 2 ^ 32 → fields_fault Ks 0 xs ≡ None → record_fault w n Ks (lengthless w xs) ≡ None
