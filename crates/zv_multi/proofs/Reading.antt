@@ -1,14 +1,13 @@
 -- Records and their fields determine each other.
-use Rattle.std.proofs.Common.{◌≡◌, ℕ, suc, ◌^◌, ◌<◌, ◌≤◌, Bool, true, List, ◌∷◌, length, Option, None, Some, is_some, refl, ap, ◌∙◌, sym, arith}
+use Rattle.std.proofs.Common.{◌≡◌, ℕ, ◌<◌, List, length, Option, None, Some, refl}
 use Rattle.std.specs.Option.{option_or}
 use Rattle.zv_ule.specs.Bytes.{IsBytes}
 use Rattle.zv_ule.specs.declared.error.UleError.{UleError}
-use Rattle.zv_var.proofs.Encoding.{has_starts, read_lengthless}
+use Rattle.zv_var.proofs.Encoding.{read_lengthless}
 use Rattle.zv_var.proofs.Lists.{length-elements_after}
 use Rattle.zv_var.specs.Format.{elements_after}
-use Rattle.zv_var.specs.Serialize.{lengthless}
 use Rattle.zv_multi.specs.Laws.{IsRecordOf}
-use Rattle.zv_multi.specs.Records.{fields_fault, no_fault, record_fault, record_len, shape_fault}
+use Rattle.zv_multi.specs.Records.{fields_fault, no_fault, record_fault, shape_fault}
 use Rattle.zv_multi.proofs.Setting.{whole_record}
 use Rattle.zv_multi.proofs.Written.{all_valid}
 

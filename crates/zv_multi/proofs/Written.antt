@@ -1,10 +1,11 @@
 -- What values are written as, by the lengths of their spellings.
-use Rattle.std.proofs.Common.{◌≡◌, ℕ, ◌+◌, ◌-◌, ◌*◌, ◌^◌, ◌<◌, ◌≤◌, Bool, true, List, [], ◌∷◌, ◌++◌, length, map, sum, Option, None, Some, is_some, refl, ap, ◌∙◌}
+use Rattle.std.proofs.Common.{◌≡◌, ℕ, ◌+◌, ◌-◌, ◌*◌, ◌^◌, ◌<◌, ◌≤◌, Bool, true, List, [], ◌∷◌, ◌++◌, length, map, sum, Option, None, Some, is_some, refl, ap}
+use Rattle.std.proofs.Common.{◌∙◌}
 use Rattle.std.proofs.Common.{sym, arith, length-append, take}
 use Rattle.std.proofs.lemmas.List.{length-map, take_at}
 use Rattle.std.proofs.lemmas.List.Concat.{concat_is, length-flat_map}
 use Rattle.std.proofs.lemmas.List.Sums.{sum-map}
-use Rattle.std.specs.List.{concat, flat_map, list_all, AllByRecursion}
+use Rattle.std.specs.List.{concat, flat_map}
 use Rattle.zv_ule.specs.Bytes.{le}
 use Rattle.zv_ule.specs.declared.error.UleError.{UleError}
 use Rattle.zv_var.proofs.Encoding.{has_starts, length-starts_from, read_lengthless}
@@ -40,7 +41,8 @@ pub some_len : (w : ℕ) (ls : List ℕ) (m : ℕ) → encoded_len w ls ≡ Some
 some_len w ls m h = (grind arith, grind arith)
 
 -- values that fit take as many bytes as are written
-pub fitting : (w : ℕ) (fits : List Bool) (xs : List (List ℕ)) → is_some (record_len w fits xs) ≡ true → record_len w fits xs ≡ Some (length (lengthless w xs))
+pub fitting : (w : ℕ) (fits : List Bool) (xs : List (List ℕ)) → is_some (record_len w fits xs) ≡ true →
+    record_len w fits xs ≡ Some (length (lengthless w xs))
 fitting w fits xs h = let l = length-lengthless w xs in let n = length-map xs length in grind arith
 
 pub fitting_starts : (w : ℕ) (fits : List Bool) (xs : List (List ℕ)) → 256 ^ w ≤ 2 ^ 32 → is_some (record_len w fits xs) ≡ true → HasStarts w xs
