@@ -1,5 +1,5 @@
 -- The fields of records.
-use Rattle.std.proofs.Common.{◌≡◌, ℕ, suc, ◌+◌, List, [], ◌∷◌, Option, refl, arith, add-one}
+use Rattle.std.proofs.Common.{◌≡◌, ℕ, suc, ◌+◌, List, [], ◌∷◌, Option, refl, add-one}
 use Rattle.zv_ule.specs.declared.error.UleError.{UleError}
 use Rattle.zv_multi.specs.Records.{fields_fault}
 

@@ -1,4 +1,5 @@
 pub mod Cut
 pub mod Faults
+pub mod Reading
 pub mod Setting
 pub mod Written

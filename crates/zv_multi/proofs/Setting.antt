@@ -1,7 +1,8 @@
 -- A field that is written over.
-use Rattle.std.proofs.Common.{◌≡◌, ℕ, zero, suc, ◌+◌, ◌-◌, ◌*◌, ◌^◌, ◌<◌, ◌≤◌, List, [], ◌∷◌, ◌++◌, length, map, take, drop, get_or, set, Option, Some, None, refl, ap, ◌∙◌}
-use Rattle.std.proofs.Common.{sym, arith, length-append, append_assoc, add-one}
-use Rattle.std.proofs.lemmas.List.{drop_at, length-map, length-set, set-get_or, take_at}
+use Rattle.std.proofs.Common.{◌≡◌, ℕ, zero, suc, ◌+◌, ◌-◌, ◌*◌, ◌<◌, ◌≤◌, List, [], ◌∷◌, ◌++◌, length, map, take, drop, get_or, set, Fits, w8, Option, Some, None}
+use Rattle.std.proofs.Common.{refl, ap, ◌∙◌}
+use Rattle.std.proofs.Common.{sym, arith, length-append, append_assoc}
+use Rattle.std.proofs.lemmas.List.{drop_at, length-set, set-get_or, take_at}
 use Rattle.std.specs.List.{concat, flat_map}
 use borrow.Rule.Slice.PartMut.{put_mid}
 use Rattle.zv_ule.specs.Bytes.{IsBytes, le}
@@ -36,69 +37,74 @@ concat-set (y ∷ ys) (suc i) x h = rw (append_assoc, concat-set ys i x (omega a
 put_mid-between : (front before old behind new : List ℕ) (a k : ℕ) → a ≡ length front + length before → k ≡ length old →
     put_mid a k (front ++ (before ++ (old ++ behind))) new ≡ front ++ (before ++ (new ++ behind))
 put_mid-between front before old behind new a k ea ek =
-    let joined : front ++ (before ++ (old ++ behind)) ≡ (front ++ before) ++ (old ++ behind) = sym (append_assoc front before (old ++ behind)) in
+    let parts : front ++ (before ++ (old ++ behind)) ≡ (front ++ before) ++ (old ++ behind) = sym (append_assoc front before (old ++ behind)) in
     let long : length (front ++ before) ≡ a = omega (arith, length-append front before) in
-    rw (joined, take_at (front ++ before) (old ++ behind) a long, drop_at (front ++ before) (old ++ behind) a long, drop_at old behind k (sym ek), append_assoc) refl
+    rw (parts, take_at (front ++ before) (old ++ behind) a long, drop_at (front ++ before) (old ++ behind) a long, drop_at old behind k (sym ek), append_assoc)
+    refl
 
 none_lengthless : (o : Option VarZeroVecFormatError) → lengthless_fault o ≡ None → o ≡ None
 none_lengthless None h = refl
 none_lengthless (Some e) h = absurd cc
 
 -- a record is written as its fields
-pub whole_record : (w n : ℕ) (b : List ℕ) → 0 < n → IsBytes b → shape_fault w n b ≡ None → (b ≡ lengthless w (elements_after w n b)) × HasStarts w (elements_after w n b)
+pub whole_record : (w n : ℕ) (b : List ℕ) → 0 < n → IsBytes b → shape_fault w n b ≡ None →
+    (b ≡ lengthless w (elements_after w n b)) × HasStarts w (elements_after w n b)
 whole_record w n b some bytes h =
     let back = lengthless_back w no_fault n b some bytes (none_lengthless (fault_after w no_fault n b) h) in
     (back.0, back.1.0)
 
--- and a field of it ends within
-pub end_within : (w n i : ℕ) (b : List ℕ) (xs : List (List ℕ)) → xs ≡ elements_after w n b → i < n → b ≡ lengthless w xs →
-    w * (n - 1) + length (concat (take i xs)) + length (get_or xs i []) ≤ length b
-end_within w n i b xs is inside whole =
-    let many : length xs ≡ n = rw is (length-elements_after w n b) in
-    let split = concat-set xs i (get_or xs i []) (omega arith) in
-    let parts = rw set-get_or at split in
-    let l = length-lengthless w xs in
-    omega (
-      arith,
-      ap length whole,
-      rw many at l,
-      length-concat xs,
-      ap length parts,
-      length-append (concat (take i xs)) (get_or xs i [] ++ concat (drop (suc i) xs)),
-      length-append (get_or xs i []) (concat (drop (suc i) xs)),
-    )
+-- field i of a record of n
+module _ (w n i : ℕ) (b : List ℕ) (xs : List (List ℕ)) (is : xs ≡ elements_after w n b) (inside : i < n) (whole : b ≡ lengthless w xs) where
+  many : length xs ≡ n
+  many = rw is (length-elements_after w n b)
 
--- The record with the field written over is the record of the fields, one of which is another.
-module _ (w n i : ℕ) (b new : List ℕ) (start end : ℕ) (whole : b ≡ lengthless w (elements_after w n b)) (numbered : HasStarts w (elements_after w n b))
-    (inside : i < n) (from : start ≡ w * (n - 1) + length (concat (take i (elements_after w n b)))) (to : end ≡ start + length (get_or (elements_after w n b) i []))
-    (same : length new ≡ length (get_or (elements_after w n b) i [])) where
-  set_bytes : put_mid start (end - start) b new ≡ lengthless w (set (elements_after w n b) i new)
-  set_bytes =
-      let xs = elements_after w n b in
-      let many : length xs ≡ n = length-elements_after w n b in
-      let parts = concat-set xs i (get_or xs i []) (omega arith) in
-      let split = rw set-get_or at parts in
-      let kept = starts_kept xs i new same in
-      let long : length (flat_map (le w) (starts xs)) ≡ w * (n - 1) = simp (length-flat_map-le, length-starts, many) refl in
-      let moved = put_mid-between (flat_map (le w) (starts xs)) (concat (take i xs)) (get_or xs i []) (concat (drop (suc i) xs)) new start (end - start) (omega arith)
-      (omega arith) in
-      ap (λ (r : List ℕ). put_mid start (end - start) r new) (whole ∙ ap (λ (r : List ℕ). flat_map (le w) (starts xs) ++ r) split) ∙ moved
-      ∙ rw (kept, concat-set xs i new (omega arith)) refl
+  joined : concat xs ≡ concat (take i xs) ++ (get_or xs i [] ++ concat (drop (suc i) xs))
+  joined = let c = many in let parts = concat-set xs i (get_or xs i []) (omega arith) in rw set-get_or at parts
 
-  set_numbered : HasStarts w (set (elements_after w n b) i new)
-  set_numbered = record { fit = rw (starts_kept (elements_after w n b) i new same) numbered.fit; short = rw length-set numbered.short }
+  -- the field ends within
+  pub end_within : w * (n - 1) + length (concat (take i xs)) + length (get_or xs i []) ≤ length b
+  end_within =
+      let c = many in
+      let l = length-lengthless w xs in
+      omega (
+        arith,
+        ap length whole,
+        rw c at l,
+        length-concat xs,
+        ap length joined,
+        length-append (concat (take i xs)) (get_or xs i [] ++ concat (drop (suc i) xs)),
+        length-append (get_or xs i []) (concat (drop (suc i) xs)),
+      )
 
-  set_read : (elements_after w n (put_mid start (end - start) b new) ≡ set (elements_after w n b) i new)
-      × (fault_after w no_fault n (put_mid start (end - start) b new) ≡ None)
-  set_read =
-      let many : length (set (elements_after w n b) i new) ≡ n = rw length-set (length-elements_after w n b) in
-      let r = read_lengthless w (set (elements_after w n b) i new) set_numbered in
-      let read = r.0 in
-      let sound = r.1 no_fault (all_valid _) in
-      rw set_bytes (rw many at read, rw many at sound)
+  -- other bytes in its place make the record in which they are the field
+  module _ (new : List ℕ) (start end : ℕ) (numbered : HasStarts w xs) (from : start ≡ w * (n - 1) + length (concat (take i xs)))
+      (to : end ≡ start + length (get_or xs i [])) (same : length new ≡ length (get_or xs i [])) where
+    set_bytes : put_mid start (end - start) b new ≡ lengthless w (set xs i new)
+    set_bytes =
+        let c = many in
+        let kept = starts_kept xs i new same in
+        let front : List ℕ = flat_map (le w) (starts xs) in
+        let long : length front ≡ w * (n - 1) = simp (length-flat_map-le, length-starts, c) refl in
+        ap (λ (r : List ℕ). put_mid start (end - start) r new) (whole ∙ ap (λ (r : List ℕ). front ++ r) joined)
+        ∙ put_mid-between front (concat (take i xs)) (get_or xs i []) (concat (drop (suc i) xs)) new start (end - start) (omega arith) (omega arith)
+        ∙ rw (kept, concat-set xs i new (omega arith)) refl
 
-  pub set_fields : elements_after w n (put_mid start (end - start) b new) ≡ set (elements_after w n b) i new
-  set_fields = set_read.0
+    set_numbered : HasStarts w (set xs i new)
+    set_numbered = record { fit = rw (starts_kept xs i new same) numbered.fit; short = rw length-set numbered.short }
 
-  pub set_shape : shape_fault w n (put_mid start (end - start) b new) ≡ None
-  set_shape = rw (set_read.1) refl
+    pub set_fields : (elements_after w n (put_mid start (end - start) b new) ≡ set xs i new) × (shape_fault w n (put_mid start (end - start) b new) ≡ None)
+    set_fields =
+        let c : length (set xs i new) ≡ n = rw length-set many in
+        let r = read_lengthless w (set xs i new) set_numbered in
+        let read = r.0 in
+        let sound = r.1 no_fault (all_valid _) in
+        let sound_n = rw c at sound in
+        rw set_bytes (rw c at read, rw sound_n refl)
+
+-- field i of bytes that are a record of n
+pub in_record : (w n i : ℕ) (b : List ℕ) → ((j : ℕ) → Fits w8 (get_or b j 0)) → i < n → shape_fault w n b ≡ None →
+    (b ≡ lengthless w (elements_after w n b)) × (HasStarts w (elements_after w n b)
+    × (w * (n - 1) + length (concat (take i (elements_after w n b))) + length (get_or (elements_after w n b) i []) ≤ length b))
+in_record w n i b each inside shape =
+    let r = whole_record w n b (omega arith) (record { at = λ j. omega (arith, each j) }) shape in
+    (r.0, (r.1, end_within w n i b _ refl inside r.0))

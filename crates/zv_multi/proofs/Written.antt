@@ -1,16 +1,17 @@
 -- What values are written as, by the lengths of their spellings.
-use Rattle.std.proofs.Common.{◌≡◌, ℕ, ◌+◌, ◌-◌, ◌*◌, ◌^◌, ◌<◌, ◌≤◌, Bool, true, List, [], ◌∷◌, ◌++◌, length, map, sum, Option, None, Some, is_some, refl, ap, ◌∙◌}
+use Rattle.std.proofs.Common.{◌≡◌, ℕ, ◌+◌, ◌-◌, ◌*◌, ◌^◌, ◌<◌, ◌≤◌, Bool, true, List, [], ◌∷◌, ◌++◌, length, map, sum, Option, None, Some, is_some, refl, ap}
+use Rattle.std.proofs.Common.{◌∙◌}
 use Rattle.std.proofs.Common.{sym, arith, length-append, take}
 use Rattle.std.proofs.lemmas.List.{length-map, take_at}
 use Rattle.std.proofs.lemmas.List.Concat.{concat_is, length-flat_map}
 use Rattle.std.proofs.lemmas.List.Sums.{sum-map}
-use Rattle.std.specs.List.{concat, flat_map, list_all, AllByRecursion}
+use Rattle.std.specs.List.{concat, flat_map}
 use Rattle.zv_ule.specs.Bytes.{le}
 use Rattle.zv_ule.specs.declared.error.UleError.{UleError}
 use Rattle.zv_var.proofs.Encoding.{has_starts, length-starts_from, read_lengthless}
 use Rattle.zv_var.proofs.Fields.{length-flat_map-le}
 use Rattle.zv_var.specs.Format.{elements_after, fault_after, starts, starts_from}
-use Rattle.zv_var.specs.Laws.{AreValid}
+use Rattle.zv_var.specs.Laws.{AreValid, HasStarts}
 use Rattle.zv_var.specs.Serialize.{lengthless}
 use Rattle.zv_multi.specs.Records.{encoded_len, fields_fault, no_fault, offsets, offsets_from, record_fault, record_len}
 
@@ -40,8 +41,15 @@ pub some_len : (w : ℕ) (ls : List ℕ) (m : ℕ) → encoded_len w ls ≡ Some
 some_len w ls m h = (grind arith, grind arith)
 
 -- values that fit take as many bytes as are written
-pub fitting : (w : ℕ) (fits : List Bool) (xs : List (List ℕ)) → is_some (record_len w fits xs) ≡ true → record_len w fits xs ≡ Some (length (lengthless w xs))
+pub fitting : (w : ℕ) (fits : List Bool) (xs : List (List ℕ)) → is_some (record_len w fits xs) ≡ true →
+    record_len w fits xs ≡ Some (length (lengthless w xs))
 fitting w fits xs h = let l = length-lengthless w xs in let n = length-map xs length in grind arith
+
+pub fitting_starts : (w : ℕ) (fits : List Bool) (xs : List (List ℕ)) → 256 ^ w ≤ 2 ^ 32 → is_some (record_len w fits xs) ≡ true → HasStarts w xs
+fitting_starts w fits xs narrow fit =
+    let l = length-lengthless w xs in
+    let k = length-map xs length in
+    has_starts w xs narrow (grind arith)
 
 -- n values that fit, and how long their spellings are
 module _ (w n : ℕ) (fits : List Bool) (xs : List (List ℕ)) (ls : List ℕ) (is : ls ≡ map length xs) (many : length ls ≡ n)
@@ -64,9 +72,7 @@ module _ (w n : ℕ) (fits : List Bool) (xs : List (List ℕ)) (ls : List ℕ) (
   -- a record of values is read as their spellings
   pub read_record : 256 ^ w ≤ 2 ^ 32 → (elements_after w n (lengthless w xs) ≡ xs) × (fault_after w no_fault n (lengthless w xs) ≡ None)
   read_record narrow =
-      let l = length-lengthless w xs in
-      let k = length-map xs length in
-      let r = read_lengthless w xs (has_starts w xs narrow (grind arith)) in
+      let r = read_lengthless w xs (fitting_starts w fits xs narrow fit) in
       rw (← count_is) (r.0, r.1 no_fault (all_valid xs))
 
   pub sound : (Ks : List (List ℕ → Option UleError)) → 256 ^ w ≤ 2 ^ 32 → fields_fault Ks 0 xs ≡ None → record_fault w n Ks (lengthless w xs) ≡ None

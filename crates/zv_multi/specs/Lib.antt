@@ -1,4 +1,5 @@
 pub mod Cows
 pub mod Records
+pub mod Laws
 pub mod Options
 pub mod VarTuples

@@ -1,5 +1,6 @@
 // Records of byte strings: where their fields lie.
-ghost use Rattle.std.specs.Prelude.{◌≡◌, ℕ, ◌+◌, ◌-◌, ◌*◌, ◌^◌, ◌<◌, ◌≤◌, List, ◌++◌, length, map, None};
+ghost use Rattle.std.specs.Prelude.{◌≡◌, ℕ, ◌+◌, ◌-◌, ◌*◌, ◌^◌, ◌<◌, ◌≤◌, List, ◌++◌, length, map};
+ghost use Rattle.std.specs.Prelude.{None};
 ghost use Rattle.std.specs.Prelude.{Some, drop, flat_map, slice_set, sum, take, IsTrue};
 ghost use Rattle.std.specs.Result.{result_err};
 ghost use Rattle.zv_multi.specs.Records.{encoded_len, field_at, offsets, offsets_from};
@@ -78,7 +79,8 @@ impl<const LEN: usize, F: VarZeroVecFormat> MultiFieldsULE<LEN, F> {
     pub fn get_field<'b, T: VarULE>(view: VarRef<'b, Self>, index: usize) -> VarRef<'b, T>
         requires usable { IsTrue T.usable }
         requires place { index < LEN }
-        requires spells { T.fault (field_at (elements_after F.W LEN (element_of view)) index) ≡ None }
+        requires spells { T.fault (field_at (elements_after F.W LEN (element_of view)) index)
+            ≡ None }
         ensures { element_of result ≡
             field_at (elements_after F.W LEN (element_of view.entry)) index }
     {

@@ -5,6 +5,7 @@ mod any;
 mod cow;
 mod fields;
 mod kinds;
+pub mod laws;
 mod option;
 mod record;
 mod tuples;

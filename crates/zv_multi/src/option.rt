@@ -1,5 +1,6 @@
 // Elements of any length that may be missing.
-ghost use Rattle.std.specs.Prelude.{◌≡◌, ◌+◌, ◌<◌, ◌∷◌, [], List, ℕ, length, None, option_map, IsTrue};
+ghost use Rattle.std.specs.Prelude.{◌≡◌, ◌+◌, ◌<◌, ◌∷◌, [], List, ℕ, length, None, option_map};
+ghost use Rattle.std.specs.Prelude.{IsTrue};
 ghost use Rattle.std.specs.Cmp.{on_total};
 ghost use Rattle.std.specs.Cmp.Lexicographic.{options_total};
 ghost use Rattle.std.specs.Option.{option_cmp};

@@ -1,5 +1,6 @@
 // Values that are written as the fields of a record: one value, and the values behind it.
-ghost use Rattle.std.specs.Prelude.{◌≡◌, ℕ, ◌==◌, ◌^◌, ◌<◌, Bool, true, ◌&&◌, List, [], ◌∷◌, ◌++◌, length, map};
+ghost use Rattle.std.specs.Prelude.{◌≡◌, ℕ, ◌==◌, ◌^◌, ◌<◌, Bool, true, ◌&&◌, List, [], ◌∷◌, ◌++◌};
+ghost use Rattle.std.specs.Prelude.{length, map};
 ghost use Rattle.std.specs.Prelude.{None, is_some, IsTrue, IfSome};
 ghost use Rattle.std.specs.List.{concat, list_all};
 ghost use Rattle.zv_multi.specs.Records.{fields_fault, record_fault, record_len};
