@@ -1,7 +1,6 @@
 -- What a proper table answers.
-use Rattle.zv_props.proofs.Common.{◌≡◌, ℕ, zero, suc, ◌+◌, ◌-◌, ◌<◌, ◌≤◌, List, [], ◌∷◌, ◌++◌, length, take, drop, refl, sym, ◌∙◌, ap, arith, nat_tests, true, false, Bool}
-use Rattle.zv_props.proofs.Common.{BeginFrom, IsPlace, row_at, IsProper, IsRow, MayFollow, Row, has, value_at, drop-cons}
-use Rattle.std.proofs.Common.{add-one}
+use Rattle.zv_props.proofs.Common.{◌≡◌, ℕ, suc, ◌+◌, ◌-◌, ◌<◌, ◌≤◌, List, [], ◌∷◌, ◌++◌, length, take, drop, refl, sym, ◌∙◌, ap, arith, nat_tests}
+use Rattle.zv_props.proofs.Common.{BeginFrom, IsPlace, row_at, IsProper, MayFollow, Row, value_at, drop-cons}
 use Rattle.std.proofs.lemmas.List.{take-append-drop}
 
 -- ---- rows that have a code point, or have not

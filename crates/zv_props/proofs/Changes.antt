@@ -1,10 +1,10 @@
 -- What a change leaves: the rows below a range, the range, and those above it.
-use Rattle.zv_props.proofs.Common.{◌≡◌, ℕ, ◌+◌, ◌-◌, ◌<◌, ◌≤◌, ⊤, List, [], ◌∷◌, ◌++◌, length, take, drop, Bool, true, false, refl, sym, ◌∙◌, ap, arith, nat_tests}
+use Rattle.zv_props.proofs.Common.{◌≡◌, ℕ, ◌+◌, ◌-◌, ◌<◌, ◌≤◌, List, [], ◌∷◌, ◌++◌, length, take, drop, Bool, true, false, refl, sym, ◌∙◌, ap, arith, nat_tests}
 use Rattle.zv_props.proofs.Common.{AnswerAlike, BeginFrom, IsPlace, IsProper, IsRow, MayFollow, Row, row_at, value_at, slice_get, Some, get_or_from_slice_get}
-use Rattle.zv_props.proofs.Answers.{ends_below, follow_from, inside, none_below, outside, parted, passed, proper_back}
+use Rattle.zv_props.proofs.Answers.{ends_below, inside, none_below, outside, parted, passed, proper_back}
 use Rattle.zv_props.proofs.Joins.{EndBelow, join_above, join_after, join_apart, join_before, join_below, join_ends, join_nil, join_proper, join_some}
-use Rattle.std.specs.Prelude.{Result, Ok, Err, OnOk, OnErr, ◌==◌, min, nat_lt, if◌then◌else◌}
-use Rattle.std.proofs.Common.{append_assoc, inl, inr, add-one}
+use Rattle.std.specs.Prelude.{Result, Ok, Err, OnOk, OnErr, ◌==◌, nat_lt, if◌then◌else◌}
+use Rattle.std.proofs.Common.{inl, inr}
 use Rattle.std.proofs.lemmas.Bool.{cases_lt}
 use Rattle.std.proofs.lemmas.List.{length-take}
 use Rattle.std.proofs.Common.{subst}
@@ -211,12 +211,12 @@ changed rows low high r proper at_low at_high order top =
     let mid = range r order top in
     let some : 0 < low → 0 < r.0 = λ h. omega (arith, at_low.before h) in
     let few : 0 < length (take (low - 1) rows) → 0 < length (left_part rows low r.0) = λ h.
-        let there : 0 < low = omega (arith, length-take (low - 1) rows) in rw (left_some rows low r.0 there) (omega arith) in
+    let there : 0 < low = omega (arith, length-take (low - 1) rows) in rw (left_some rows low r.0 there) (omega arith) in
     let ends = join_ends r.0 (r.1 + 1) (left_part rows low r.0) (range_row r) (omega arith) (left_ends rows low r.0 some) mid.ends in
     let same : join (join (take (low - 1) rows ++ left_part rows low r.0) (range_row r)) (right_part rows high r.1 ++ drop high rows)
-        ≡ take (low - 1) rows ++ (middle rows low high r ++ drop high rows) =
-        split_front (take (low - 1) rows) (left_part rows low r.0) (range_row r) (right_part rows high r.1 ++ drop high rows) few
-        ∙ ap (λ t. take (low - 1) rows ++ t) (split_back (r.1 + 1) (join (left_part rows low r.0) (range_row r)) (right_part rows high r.1) (drop high rows) ends at_high.after) in
+    ≡ take (low - 1) rows ++ (middle rows low high r ++ drop high rows) =
+    split_front (take (low - 1) rows) (left_part rows low r.0) (range_row r) (right_part rows high r.1 ++ drop high rows) few
+    ∙ ap (λ t. take (low - 1) rows ++ t) (split_back (r.1 + 1) (join (left_part rows low r.0) (range_row r)) (right_part rows high r.1) (drop high rows) ends at_high.after) in
     rw (← same) (whole r rows _ (range_row r) _ (front rows proper r.0 low at_low) mid (back rows proper r.1 high at_high) order)
 
 -- the same where it may fail

@@ -1,6 +1,6 @@
 -- Rows behind rows.
 use Rattle.zv_props.proofs.Common.{◌≡◌, ℕ, ◌+◌, ◌<◌, ◌≤◌, ⊤, List, [], ◌∷◌, ◌++◌, length, Bool, true, false, refl, sym, ◌∙◌, ap, arith, nat_tests}
-use Rattle.zv_props.proofs.Common.{BeginFrom, IsProper, IsRow, MayFollow, Row, value_at}
+use Rattle.zv_props.proofs.Common.{BeginFrom, IsProper, MayFollow, Row, value_at}
 use Rattle.zv_props.proofs.Answers.{follow_from, none_below, outside}
 use Rattle.std.specs.Prelude.{if◌then◌else◌}
 use Rattle.zv_props.specs.Joining.{join, join_two, touch}

@@ -2,6 +2,7 @@ pub mod Common
 pub mod Proper
 pub mod Answers
 pub mod Joins
+pub mod Sets
 pub mod Spliced
 pub mod Changes
 pub mod Unique

@@ -1,17 +1,17 @@
 -- The search among the first code points of rows.
-use Rattle.zv_props.proofs.Common.{◌≡◌, ℕ, zero, suc, ◌+◌, ◌-◌, ◌<◌, ◌≤◌, List, [], ◌∷◌, length, take, drop, get_or, map, refl, sym, ◌∙◌, ap, arith, nat_tests}
-use Rattle.zv_props.proofs.Common.{Ordering, Less, Equal, Greater, nat_cmp, ordering_index, Bytes, IsHit, IsGap, Rises, answer_at}
-use Rattle.zv_props.proofs.Common.{BeginFrom, IsPlace, MayFollow, row_at, IsProper, Row, row, rows_of, drop-cons}
-use Rattle.std.proofs.Common.{◌^◌, add-one, inl, inr}
+use Rattle.zv_props.proofs.Common.{◌≡◌, ℕ, zero, suc, ◌+◌, ◌-◌, ◌<◌, ◌≤◌, List, [], ◌∷◌, length, take, drop, map, refl, sym, ◌∙◌, arith, nat_tests}
+use Rattle.zv_props.proofs.Common.{Less, Equal, Greater, nat_cmp, ordering_index, Bytes, IsHit, IsGap, Rises, answer_at}
+use Rattle.zv_props.proofs.Common.{BeginFrom, IsPlace, row_at, IsProper, Row, row, rows_of, drop-cons}
+use Rattle.std.proofs.Common.{◌^◌, inl, inr}
 use Rattle.std.proofs.lemmas.Bool.{cases_lt}
 use Rattle.std.proofs.lemmas.List.{take_all}
 use Rattle.std.specs.Ordering.{on}
 use Rattle.std.specs.Int.{w32, from_le_bytes, to_le_bytes}
-use Rattle.std.specs.Prelude.{slice_range, Result, Ok, Err}
+use Rattle.std.specs.Prelude.{slice_range, Ok, Err}
 use Rattle.std.proofs.lemmas.Nat.{from_le_bytes-to_le_bytes_4}
 use Rattle.std.proofs.lemmas.List.{get_or-map, length-map}
 use Rattle.zv_ule.specs.Chunks.{chunks_of}
-use Rattle.zv_ule.specs.Search.{compared, Found, FoundIn}
+use Rattle.zv_ule.specs.Search.{compared, FoundIn}
 use Rattle.zv_props.proofs.Answers.{follow_from}
 
 equal_tells : (a c : ℕ) → nat_cmp a c ≡ Equal → a ≡ c

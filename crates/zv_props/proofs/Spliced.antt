@@ -1,14 +1,11 @@
 -- Rows put in place of others, by their bytes.
-use Rattle.zv_props.proofs.Common.{◌≡◌, ℕ, zero, suc, ◌+◌, ◌*◌, ◌<◌, ◌≤◌, List, [], ◌∷◌, ◌++◌, length, take, drop, None, refl, sym, ◌∙◌, ap, arith, Row, row, rows_of}
-use Rattle.std.proofs.Common.{append_assoc}
+use Rattle.zv_props.proofs.Common.{◌≡◌, ℕ, zero, suc, ◌+◌, ◌*◌, ◌≤◌, List, [], ◌∷◌, ◌++◌, length, take, drop, None, refl, sym, ◌∙◌, ap, arith, Row, row, rows_of}
 use Rattle.std.proofs.Math.Nat.{suc-mul}
 use Rattle.std.proofs.Math.Seq.{take-append-add, drop-append-add}
 use Rattle.std.proofs.Common.{◌/◌}
 use Rattle.std.proofs.lemmas.List.{length-map}
-use Rattle.zv_ule.specs.Chunks.{chunks_of}
 use Rattle.zv_ule.specs.laws.Joined.{length-chunks}
 use Rattle.std.proofs.lemmas.Grind.{flat_map-append}
-use Rattle.std.specs.Int.{w16, w32, from_le_bytes, to_le_bytes}
 use Rattle.std.specs.List.{AllByRecursion, splice}
 use Rattle.std.specs.Prelude.{Result, Ok, Err, OnOk, OnErr}
 use Rattle.zv_ule.specs.Fixed.{IsSpelling}

@@ -1,5 +1,5 @@
 -- Proper tables with the same answers are the same.
-use Rattle.zv_props.proofs.Common.{◌≡◌, ℕ, suc, ◌+◌, ◌<◌, ◌≤◌, List, [], ◌∷◌, refl, sym, ◌∙◌, ap, arith}
+use Rattle.zv_props.proofs.Common.{◌≡◌, ℕ, ◌+◌, ◌<◌, ◌≤◌, List, [], ◌∷◌, refl, sym, ◌∙◌, arith}
 use Rattle.zv_props.proofs.Common.{AnswerAlike, IsProper, MayFollow, Row, value_at}
 use Rattle.zv_props.specs.Tables.{max_code_point}
 use Rattle.std.proofs.lemmas.Bool.{cases_lt}
@@ -34,8 +34,8 @@ module _ (x y : Row) (xs ys : List Row) (left : IsProper (x ∷ xs)) (right : Is
   last begin value = elim (cases_lt x.1 y.1) [
     | inl below ↦
         let next : value_at xs (x.1 + 1) ≡ x.2 =
-            sym (outside x xs (x.1 + 1) (λ low high. omega arith))
-            ∙ (same (x.1 + 1) ∙ (inside y ys (x.1 + 1) (omega (arith, left.0.order)) (omega arith) ∙ sym value)) in
+        sym (outside x xs (x.1 + 1) (λ low high. omega arith))
+        ∙ (same (x.1 + 1) ∙ (inside y ys (x.1 + 1) (omega (arith, left.0.order)) (omega arith) ∙ sym value)) in
         absurd (apart (x.1 + 1) x.2 xs left.2 left.1 left.0.some next)
     | inr from ↦ from
   ]

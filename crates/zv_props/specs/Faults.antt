@@ -15,8 +15,8 @@ is_row r = nat_le r.0 r.1 && nat_le r.1 max_code_point && nat_lt 0 r.2
 abbrev pub row_fault : ℕ → ℕ → ℕ → Row → Option PropsError
 row_fault place start value r =
     if is_row r then
-      (if nat_lt r.0 start then Some (Order place)
-       else if start == r.0 && r.2 == value then Some (Join place) else None)
+    (if nat_lt r.0 start then Some (Order place)
+    else if start == r.0 && r.2 == value then Some (Join place) else None)
     else Some (BadRow place)
 
 -- the first of two errors

@@ -1,5 +1,5 @@
 -- Rows behind rows, where two that touch and have one value become one.
-use Rattle.std.specs.Prelude.{ℕ, ◌+◌, ◌==◌, ◌&&◌, Bool, List, [], ◌∷◌, if◌then◌else◌}
+use Rattle.std.specs.Prelude.{◌+◌, ◌==◌, ◌&&◌, Bool, List, [], ◌∷◌, if◌then◌else◌}
 use Rattle.zv_props.specs.Tables.{Row}
 
 -- the second row begins right behind the first, with its value

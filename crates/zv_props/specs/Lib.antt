@@ -5,3 +5,5 @@ pub mod Contents
 pub mod Places
 pub mod Joining
 pub mod Changes
+pub mod Sets
+pub mod Examples

@@ -1,5 +1,5 @@
 -- Tables of code point ranges: what they answer, and which are proper.
-use Rattle.std.specs.Prelude.{◌≡◌, ℕ, ◌+◌, ◌<◌, ◌≤◌, ◌&&◌, ⊤, Bool, true, nat_le, nat_lt}
+use Rattle.std.specs.Prelude.{◌≡◌, ℕ, ◌+◌, ◌<◌, ◌≤◌, ◌&&◌, ⊤, Bool, nat_le}
 use Rattle.std.specs.Prelude.{List, [], ◌∷◌, if◌then◌else◌}
 
 -- the largest code point of Unicode

@@ -45,12 +45,7 @@ impl TableBytes<'_> {
     {
         match self {
             TableBytes::Borrowed(bytes) => {
-                *self = TableBytes::Owned(joined(
-                    alloc,
-                    &bytes[..start],
-                    added,
-                    &bytes[end..],
-                )?);
+                *self = TableBytes::Owned(joined(alloc, &bytes[..start], added, &bytes[end..])?);
             }
             TableBytes::Owned(bytes) => {
                 fit_gap(bytes, start, end, added.len())?;

@@ -128,13 +128,7 @@ impl Props<'_> {
     /// # Cost
     /// Two searches. A table that owns its bytes, with room for two rows more, moves those behind
     /// the range once and in place. Any other is copied.
-    pub fn set(
-        &mut self,
-        alloc: Global,
-        first: u32,
-        last: u32,
-        value: u16,
-    ) -> Result<(), NoMemory>
+    pub fn set(&mut self, alloc: Global, first: u32, last: u32, value: u16) -> Result<(), NoMemory>
         requires order { first ≤ last }
         requires top { last ≤ max_code_point }
         ensures ok { OnOk result (AnswerAlike self.new ((first, last, value) ∷ self.old)) }

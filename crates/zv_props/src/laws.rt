@@ -1,5 +1,7 @@
 // The laws of tables, each the contract of a function that does nothing.
 ghost use Rattle.std.specs.Prelude.{◌≡◌};
+ghost use Rattle.zv_props.specs.Examples.{JoinIsTold, LeastIsTold, LengthIsTold, LettersBytes};
+ghost use Rattle.zv_props.specs.Examples.{LettersValues, OrderIsTold, RowIsTold, TwoValuesTouch};
 ghost use Rattle.zv_props.specs.Stored.{table_bytes};
 ghost use Rattle.zv_props.specs.Tables.{AnswerAlike, IsProper};
 
@@ -14,3 +16,15 @@ pub fn one_table(first: &Props<'_>, second: &Props<'_>)
 {
     let (_first, _second) = (first.rows(), second.rows());
 }
+
+/// Tables that were worked out by hand.
+pub fn worked_tables()
+    ensures bytes { LettersBytes }
+    ensures values { LettersValues }
+    ensures length { LengthIsTold }
+    ensures join { JoinIsTold }
+    ensures touch { TwoValuesTouch }
+    ensures order { OrderIsTold }
+    ensures row { RowIsTold }
+    ensures least { LeastIsTold }
+{}

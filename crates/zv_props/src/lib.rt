@@ -7,6 +7,7 @@
 //! bytes, and can be compared, hashed and kept by them.
 #![tactic(auto)]
 
+mod build;
 mod bytes;
 mod change;
 mod error;

@@ -38,11 +38,7 @@ impl IndexedList<u32> for Firsts<'_> {
 
 /// How many rows begin at or below a code point.
 #[inline]
-pub(crate) fn place_of<L: Ledger>(
-    rows: ZeroSlice<'_, Row>,
-    c: u32,
-    steps: &mut Steps<L>,
-) -> usize
+pub(crate) fn place_of<L: Ledger>(rows: ZeroSlice<'_, Row>, c: u32, steps: &mut Steps<L>) -> usize
     requires { IsProper (rows_of rows.bytes.now) }
     ensures place { IsPlace (rows_of rows.entry.bytes.now) (c + 1) result }
     ensures digits { AtMostDigits (steps.new - steps.old) (length (rows_of rows.entry.bytes.now)) }

@@ -1,8 +1,5 @@
-use Rattle.zv_props.proofs.Common.{◌≡◌, rows_of, List, ◌++◌, take, drop, None}
-use Rattle.std.specs.Prelude.{OnOk}
 use Rattle.zv_props.proofs.Spliced.{edited}
 use Rattle.zv_props.specs.Contents.{bytes_in}
-use Rattle.zv_props.specs.Stored.{list_fault}
 use Rattle.zv_props.proofs.change.put_rows.Goals as goal
 
 pub returns-clause-ok : goal.returns-clause-ok

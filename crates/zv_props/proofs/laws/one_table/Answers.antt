@@ -1,4 +1,4 @@
-use Rattle.zv_props.proofs.Common.{◌≡◌, ap}
+use Rattle.zv_props.proofs.Common.{ap}
 use Rattle.zv_props.proofs.Unique.{one_table as same_table}
 use Rattle.zv_props.specs.Stored.{table_bytes}
 use Rattle.zv_props.proofs.laws.one_table.Goals as goal

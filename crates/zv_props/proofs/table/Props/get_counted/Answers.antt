@@ -1,6 +1,5 @@
-use Rattle.zv_props.proofs.Common.{◌≡◌, ◌-◌, ◌<◌, ◌≤◌, ap, arith, get_or_from_slice_get, rows_of, row_at, sym, ◌∙◌}
+use Rattle.zv_props.proofs.Common.{◌≡◌, ◌-◌, ap, arith, get_or_from_slice_get, rows_of, row_at, sym, ◌∙◌}
 use Rattle.zv_props.proofs.Answers.{first_place, in_row, past_row, proper_drop}
-use Rattle.zv_props.specs.Tables.{value_at}
 use Rattle.zv_props.proofs.table.Props.get_counted.Goals as goal
 
 pub returns-then-place-eq0-clause-value : goal.returns-then-place-eq0-clause-value

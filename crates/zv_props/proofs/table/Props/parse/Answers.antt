@@ -1,6 +1,5 @@
 use Rattle.zv_props.proofs.Common.{refl, sym, ◌∙◌}
 use Rattle.zv_props.proofs.Proper.{good_proper}
-use Rattle.zv_props.specs.Stored.{rows_of}
 use Rattle.zv_props.proofs.table.Props.parse.Goals as goal
 
 pub invariant_of-result : goal.invariant_of-result

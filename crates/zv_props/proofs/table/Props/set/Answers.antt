@@ -1,4 +1,4 @@
-use Rattle.zv_props.proofs.Common.{◌≡◌, ◌+◌, ◌-◌, ◌≤◌, ◌∷◌, AnswerAlike, IsProper, arith, rows_of}
+use Rattle.zv_props.proofs.Common.{◌+◌, ◌∷◌, AnswerAlike, IsProper, arith, rows_of}
 use Rattle.std.proofs.Common.{rules}
 use Rattle.std.specs.Prelude.{OnOk}
 use Rattle.zv_props.proofs.Changes.{set_done}
