@@ -55,7 +55,7 @@ fn reserve_for_two(
 ///
 /// # Errors
 /// `TooLarge` where the value does not fit. The table is unchanged then.
-#[tactic(auto, using(crate::proofs::TwoPuts::owned_after))]
+#[tactic(auto, using(zv_map2d::proofs::Rooms::owned_after))]
 pub fn put_entry(table: &mut StoredTable<'_>, item: Entry<'_>) -> Result<(), Map2dError>
     requires room { HasRoomFor 2 2 2 (length item.keys.language.now)
         (length item.keys.script.now) (length item.value.now) 1 table.old }
@@ -74,7 +74,7 @@ pub fn put_entry(table: &mut StoredTable<'_>, item: Entry<'_>) -> Result<(), Map
 }
 
 /// Takes a language in a script out, if it is there. It takes no memory.
-#[tactic(auto, using(crate::proofs::TwoPuts::owned_after))]
+#[tactic(auto, using(zv_map2d::proofs::Rooms::owned_after))]
 pub fn discard_keys(table: &mut StoredTable<'_>, keys: Keys<'_>)
     requires { IsOwned table.old }
     ensures rows { table.new.rows ≡ without table.old.rows keys.entry }
@@ -84,7 +84,7 @@ pub fn discard_keys(table: &mut StoredTable<'_>, keys: Keys<'_>)
 }
 
 /// Puts two entries, one after the other, in room for both.
-#[tactic(auto, using(crate::proofs::TwoPuts::first_room, crate::proofs::TwoPuts::second_room))]
+#[tactic(auto, using(zv_map2d::proofs::Rooms::first_room, zv_map2d::proofs::Rooms::second_room))]
 fn put_both(
     table: &mut StoredTable<'_>,
     first: Entry<'_>,
