@@ -9,6 +9,7 @@ pub mod laws;
 mod option;
 mod record;
 mod tuples;
+mod usable;
 mod values;
 mod var_tuple;
 
