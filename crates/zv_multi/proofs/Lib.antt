@@ -1,4 +1,5 @@
 pub mod Cut
+pub mod Exact
 pub mod Faults
 pub mod Reading
 pub mod Setting

@@ -11,7 +11,7 @@ use Rattle.zv_multi.specs.Records.{fields_fault, no_fault, record_fault, shape_f
 use Rattle.zv_multi.proofs.Setting.{whole_record}
 use Rattle.zv_multi.proofs.Written.{all_valid}
 
-neither : (a b : Option UleError) → option_or a b ≡ None → (a ≡ None) × (b ≡ None)
+pub neither : (a b : Option UleError) → option_or a b ≡ None → (a ≡ None) × (b ≡ None)
 neither None b h = (refl, h)
 neither (Some e) b h = absurd cc
 

@@ -1,7 +1,9 @@
 -- Laws of records. w is the width of a start in bytes, and Ks are the tests of the fields' kinds.
-use Rattle.std.specs.Prelude.{◌≡◌, ℕ, ◌^◌, ◌<◌, ◌≤◌, ◌↔◌, Bool, true, List, length, Option, None}
-use Rattle.std.specs.Prelude.{is_some}
+use Rattle.std.specs.Prelude.{◌≡◌, ℕ, ◌^◌, ◌<◌, ◌≤◌, ◌↔◌, Bool, true, List, [], ◌∷◌, length}
+use Rattle.std.specs.Prelude.{Option, None, is_some}
+use Rattle.std.specs.declared.cmp.Ordering.{Ordering}
 use Rattle.zv_ule.specs.Bytes.{IsBytes}
+use Rattle.zv_ule.specs.Kinds.{EqualIsSame}
 use Rattle.zv_ule.specs.declared.error.UleError.{UleError}
 use Rattle.zv_var.specs.Format.{elements_after}
 use Rattle.zv_var.specs.Laws.{HasStarts}
@@ -33,3 +35,10 @@ WrittenStands = (w : ℕ) (Ks : List (List ℕ → Option UleError)) (fits : Lis
     (xs : List (List ℕ)) → 256 ^ w ≤ 2 ^ 32 → length xs ≡ length Ks →
     is_some (record_len w fits xs) ≡ true → fields_fault Ks 0 xs ≡ None →
     IsRecordOf w Ks (lengthless w xs) xs
+
+-- of each kind, elements that compare Equal are the same bytes
+abbrev pub AreExact : List (List ℕ → Option UleError) → List (List ℕ → List ℕ → Ordering) → Type 0
+AreExact [] [] = Unit {0}
+AreExact (K ∷ Ks) (cmp ∷ cmps) = EqualIsSame K cmp × AreExact Ks cmps
+AreExact [] (cmp ∷ cmps) = ⊥
+AreExact (K ∷ Ks) [] = ⊥

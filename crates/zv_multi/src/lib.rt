@@ -9,6 +9,7 @@ pub mod laws;
 mod option;
 mod record;
 mod tuples;
+mod usable;
 mod values;
 mod var_tuple;
 
@@ -18,5 +19,4 @@ pub use fields::MultiFieldsULE;
 pub use kinds::{End, Field, FieldKinds, FieldOrders};
 pub use option::OptionVarULE;
 pub use record::{RecordULE, Tuple2VarULE, Tuple3VarULE, Tuple4VarULE, Tuple5VarULE, Tuple6VarULE};
-pub use values::FieldValues;
 pub use var_tuple::{VarTuple, VarTupleULE};

@@ -12,7 +12,7 @@ use crate::kinds::{End, Field, FieldKinds};
 use zv_ule::{EncodeAsVarULE, VarZeroVecFormat, ZvKind};
 
 /// Values that spell the fields of a record, one after another.
-pub trait FieldValues<K: FieldKinds> {
+pub(crate) trait FieldValues<K: FieldKinds> {
     /// Whether each has a spelling.
     ghost fits: { Self → List Bool };
 

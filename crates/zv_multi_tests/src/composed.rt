@@ -4,6 +4,7 @@ use std::cmp::Ordering;
 use std::test::Fail;
 use zv_multi::{OptionVarULE, Tuple2VarULE, VarTuple, VarTupleULE};
 use zv_ule::{Index8, StrULE, TyName, UleError, VarRef, ZvKind};
+use zv_var::VarZeroVecComponents;
 
 #[test]
 fn a_value_stands_before_its_element(rt: HostRuntime) -> Result<(), Fail> {
@@ -58,4 +59,10 @@ fn other_bytes_are_no_optional_text(rt: HostRuntime) {
     assert!(rt; OptionalText::check(b"\0a") == Err(UleError::length(TyName::OptionVar, 2)));
     assert!(rt; OptionalText::check(b"\x02") == Err(UleError::parse(TyName::OptionVar)));
     assert!(rt; OptionalText::check(b"\x01\xff") == Err(UleError::parse(TyName::Str)));
+}
+
+#[test]
+fn lists_of_composed_elements_have_defaults(rt: HostRuntime) {
+    type Record = Tuple2VarULE<OptionalText, VarTupleULE<u16, StrULE>, Index8>;
+    assert!(rt; VarZeroVecComponents::<'_, Record, Index8>::default().is_empty());
 }

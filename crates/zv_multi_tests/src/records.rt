@@ -8,7 +8,7 @@ use std::test::Fail;
 use zv_multi::{MultiFieldsULE, Tuple2VarULE, Tuple3VarULE, Tuple6VarULE};
 use zv_owned::VarZeroVecOwned;
 use zv_ule::{
-    EncodeAsVarULE, Index8, Index16, Index32, SliceULE, StrULE, VarBox, VarRef, VarULE,
+    CharULE, EncodeAsVarULE, Index8, Index16, Index32, SliceULE, StrULE, VarBox, VarRef, VarULE,
     VarZeroVecFormat, ZvOrd, encode_varule_to_box,
 };
 use zv_var::VarZeroSliceULE;
@@ -101,7 +101,7 @@ fn a_record_is_shorter_than_its_largest_start(rt: HostRuntime) -> Result<(), Fai
 }
 
 #[test]
-fn fields_are_written_one_by_one(rt: HostRuntime) {
+fn fields_are_written_one_by_one(rt: HostRuntime) -> Result<(), Fail> {
     type Three = MultiFieldsULE<3, Index8>;
     let mut record = [0; 6];
     Three::new_from_lengths_partially_initialized([1, 0, 3], &mut record);
@@ -110,6 +110,13 @@ fn fields_are_written_one_by_one(rt: HostRuntime) {
     assert!(rt; record == [1, 1, 0, b'a', b'b', b'c']);
     Three::set_field_at::<StrULE, _>(0, &"d", &mut record);
     assert!(rt; record == [1, 1, b'd', b'a', b'b', b'c']);
+
+    let view = VarRef::<'_, Three>::new(&record)?;
+    assert!(rt; Three::as_bytes(view) == b"\x01\x01dabc".as_slice());
+    assert!(rt; Three::validate_field::<SliceULE<CharULE>>(view, 0).is_err());
+    assert!(rt; Three::validate_field::<StrULE>(view, 2).is_ok());
+    assert!(rt; Three::get_field::<StrULE>(view, 2).as_str() == "abc");
+    Ok(())
 }
 
 // Two records compare so.
