@@ -2,6 +2,8 @@ pub mod Common
 pub mod Proper
 pub mod Answers
 pub mod Joins
+pub mod Steps
+pub mod Lines
 pub mod Sets
 pub mod Spliced
 pub mod Changes

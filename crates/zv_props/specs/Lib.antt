@@ -7,3 +7,5 @@ pub mod Joining
 pub mod Changes
 pub mod Sets
 pub mod Examples
+pub mod Steps
+pub mod Requests

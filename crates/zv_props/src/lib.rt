@@ -14,7 +14,11 @@ mod error;
 mod few_rows;
 pub mod laws;
 mod lookup;
+mod request;
+mod step;
 mod table;
 
 pub use error::{BuildError, PropsError};
-pub use table::Props;
+pub use request::TableSteps;
+pub use step::Step;
+pub use table::{MAX_CODE_POINT, Props};

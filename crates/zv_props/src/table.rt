@@ -112,6 +112,7 @@ impl<'a> Props<'a> {
     pub fn as_bytes(&self) -> &[u8]
         ensures bytes { result.now ≡ table_bytes self.now }
         ensures fine { table_fault result.now ≡ None }
+        ensures proper { IsProper self.now }
     {
         self.rows().as_bytes()
     }
