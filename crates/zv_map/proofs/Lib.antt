@@ -1,4 +1,3 @@
-pub mod Ascents
 pub mod Common
 pub mod FixedLists
 pub mod Permuted

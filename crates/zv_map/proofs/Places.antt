@@ -19,7 +19,7 @@ use Rattle.zv_ule.specs.Search.{IsHit, IsGap, Found}
 use Rattle.zv_map.proofs.Common.{◌≡◌, ℕ, zero, suc, ◌-◌, ◌<◌, ◌≤◌, Bool, true, List, [], ◌∷◌, length, None, Err, refl, sym, ◌∙◌, ap, arith, slice_range}
 use Rattle.zv_map.proofs.Common.{length-map, Less-from_sorted, IsTotalOrder, IsStrictlySortedBy, ordering_reverse, Ordering, Less, Equal, compared, Rises}
 use Rattle.zv_map.proofs.Common.{Bytes, nth, nat_tests}
-use Rattle.zv_map.proofs.Ascents.{compared_at, sorted_rises}
+use Rattle.zv_ule.proofs.Ascents.{compared_at, sorted_rises}
 use Rattle.zv_map.specs.Maps.{IsMap, keys_of, values_of, look_up, insert_entry, without_key, rank, set_value_at, IsAt}
 
 -- ---- places among answers

@@ -18,7 +18,7 @@ pub use Rattle.std.specs.declared.cmp.Ordering.TheVariants.{Less, Equal, Greater
 pub use Rattle.zv_ule.specs.Search.{compared, IsGap, Found, AnsweredEqual, answer_at}
 pub use Rattle.zv_ule.specs.declared.kind.ZvKind.{Ghosts as KindGhosts}
 pub use Rattle.zv_ule.specs.declared.kind.ZvOrd.{Ghosts as OrdGhosts}
-pub use Rattle.zv_map.proofs.Ascents.{compared_at, sorted_rises}
+pub use Rattle.zv_ule.proofs.Ascents.{compared_at, sorted_rises}
 pub use Rattle.zv_map.proofs.Places.{look_up_gap, look_up_at, IsMap-insert_entry, IsMap-without_key, insert_entry_gap, without_key_at, placed, at_within}
 pub use Rattle.zv_map.proofs.Places.{insert_entry_at, rank_at, own_place, look_up-insert_entry, look_up-without_key, maps_alike, gap_within, without_key_gap}
 pub use Rattle.zv_map.proofs.Ranges.{range_all}

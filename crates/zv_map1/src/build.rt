@@ -40,7 +40,7 @@ impl<K: ZvOrd, V: ZvKind, C: ZvContainer<K> + Drop, D: ZvContainer<V> + Drop> Ma
     /// # Errors
     /// `Count` where there are not as many values as keys, else `KeyOrder` where the keys don't
     /// ascend strictly. The vectors are dropped then.
-    #[tactic(auto, using(zv_map::proofs::Ascents::sorted_from_ascends))]
+    #[tactic(auto, using(zv_ule::proofs::Ascents::sorted_from_ascends))]
     pub fn from_vecs(keys: C, values: D) -> Result<Self, VecsError>
         ensures error { result_err result ≡ columns_fault K.cmp (C.list keys) (D.list values) }
         ensures pairs { IfOk result (λ m. m.pairs ≡ zip (C.list keys) (D.list values)) }

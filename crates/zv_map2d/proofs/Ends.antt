@@ -4,7 +4,7 @@ use Rattle.zv_map2d.proofs.Common.{IfErr, is_some, is_none, inl, inr, refl, sym,
 use Rattle.zv_map2d.proofs.Common.{Ordering, Equal, Greater, placed, IsAt, keys_of, IsGap, answer_at, compared, Triple, first_refusal, is_above_key, put_all}
 use Rattle.zv_map2d.proofs.Common.{written, Rule, fits, Bytes, Order, nth, IsPlace, Rows, IsWell, find, firsts, put, row_at, InRow, NewRow, IfSome}
 use Rattle.std.specs.Ordering.{ordering_index, ordering_reverse}
-use Rattle.zv_map.proofs.Ascents.{compared_at, sorted_rises}
+use Rattle.zv_ule.proofs.Ascents.{compared_at, sorted_rises}
 use Rattle.zv_map2d.specs.Refusals.{IsRefusal, is_full}
 use Rattle.zv_map2d.specs.declared.error.Map2dError.{Map2dError}
 use Rattle.zv_map2d.specs.declared.error.Map2dError.TheVariants.{TooLarge, TooMany, Memory}

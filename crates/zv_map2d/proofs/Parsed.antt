@@ -7,7 +7,7 @@ use Rattle.std.proofs.lemmas.Bool.{and_parts}
 use Rattle.std.proofs.lemmas.Bool.Decides.{nat_tests}
 use Rattle.std.proofs.lemmas.List.Folds.{drop_split}
 use Rattle.std.proofs.lemmas.Slice.Zip.{firsts-zip, seconds-zip}
-use Rattle.zv_map.proofs.Ascents.{sorted_from_ascends}
+use Rattle.zv_ule.proofs.Ascents.{sorted_from_ascends}
 use Rattle.zv_map2d.proofs.Flat.{pick_is}
 
 ascends_first : (n e top : ℕ) (es : List ℕ) → last_ascending n (e ∷ es) ≡ Some top → (n < e) × (last_ascending e es ≡ Some top)
