@@ -6,4 +6,5 @@ pub mod images;
 pub mod names;
 pub mod regions;
 pub mod scores;
+pub mod scripts;
 pub mod titles;

@@ -14,6 +14,8 @@ mod long_inputs;
 #[cfg(test)]
 mod looks;
 #[cfg(test)]
+mod props;
+#[cfg(test)]
 mod runs;
 #[cfg(test)]
 mod worked;

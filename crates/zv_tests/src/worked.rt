@@ -2,6 +2,7 @@
 use crate::cases::{Case, cases};
 use crate::changes::changes;
 use crate::looks::looks;
+use crate::props::props;
 use crate::runs::{answer_of, failing_devices, join, memory_devices, words_of};
 use std::alloc::Global;
 use std::process::Abort;
@@ -87,6 +88,11 @@ fn each_input_is_answered(rt: HostRuntime) -> Result<(), Fail> {
 #[test]
 fn each_look_up_is_answered(rt: HostRuntime) -> Result<(), Fail> {
     try_cases(&rt, rt.alloc(), looks())
+}
+
+#[test]
+fn each_table_is_answered(rt: HostRuntime) -> Result<(), Fail> {
+    try_cases(&rt, rt.alloc(), props())
 }
 
 #[test]

@@ -10,8 +10,9 @@ use Rattle.zv_command.specs.Runs.{Wanted, at_once, of_input, reads_input}
 use Rattle.zv_command.specs.Text.{line}
 use Rattle.zv_command.specs.declared.status.Status.TheVariants.{Usage}
 use Rattle.zv_edit.specs.Requests.{edit_due, look_due, with_command}
+use Rattle.zv_props.specs.Requests.{props_due, with_step}
 use Rattle.zv_tool.specs.declared.form.Form.{Form}
-use Rattle.zv_tool.specs.declared.form.Form.TheVariants.{Edit, Look}
+use Rattle.zv_tool.specs.declared.form.Form.TheVariants.{Edit, Look, Props}
 
 -- ---- the words of a form
 
@@ -33,14 +34,18 @@ look_of words = do
   triple ← three_words words
   if bytes_eq triple.0 (codes "look") then look_keys triple.1 triple.2 else None
 
--- the form that the words are, `edit` or `look` and two keys
+-- the form that the words are, `edit`, `props` or `look` and two keys
 abbrev pub form_of : List (List ℕ) → Option Form
-form_of words = if is_word (codes "edit") words then Some Edit else look_of words
+form_of words =
+    if is_word (codes "edit") words then Some Edit
+    else if is_word (codes "props") words then Some Props
+    else look_of words
 
 -- whether the first word names a form
 abbrev pub names_form : List (List ℕ) → Bool
 names_form [] = false
-names_form (word ∷ rest) = bytes_eq word (codes "edit") || bytes_eq word (codes "look")
+names_form (word ∷ rest) =
+    bytes_eq word (codes "edit") || bytes_eq word (codes "look") || bytes_eq word (codes "props")
 
 -- ---- what is wanted
 
@@ -48,6 +53,7 @@ names_form (word ∷ rest) = bytes_eq word (codes "edit") || bytes_eq word (code
 abbrev pub wanted_of : Form → Wanted
 wanted_of Edit = of_input (input_due with_command edit_due [])
 wanted_of (Look look) = of_input (input_due with_no_line look_due look)
+wanted_of Props = of_input (input_due with_step props_due [])
 
 -- by words: the usage line where they are no form
 abbrev pub wanted_or_usage : Option Form → Wanted

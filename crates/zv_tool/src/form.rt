@@ -16,6 +16,8 @@ pub(crate) enum Form {
     Edit,
     /// A pair of keys is looked up in an image.
     Look(Look),
+    /// A table of code point ranges is asked and changed.
+    Props,
 }
 
 // Whether the words are this one.
@@ -71,6 +73,9 @@ pub(crate) fn read_form(alloc: Global, words: &Words) -> Result<Option<Form>, No
 {
     if is_word(words, "edit") {
         return Ok(Some(Form::Edit));
+    }
+    if is_word(words, "props") {
+        return Ok(Some(Form::Props));
     }
     read_look(alloc, words)
 }

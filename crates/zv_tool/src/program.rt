@@ -12,6 +12,7 @@ use std::alloc::Global;
 use zv_command::{MAX_INPUT, Status, run_request, send};
 use zv_devices::{Sink, Source};
 use zv_edit::Edit;
+use zv_props::TableSteps;
 use zv_ule::NoMemory;
 
 // Does what a form asks.
@@ -22,16 +23,17 @@ fn run_form<S: Source, K: Sink>(alloc: Global, form: Form, source: &mut S, sink:
     match form {
         Form::Edit => run_request(alloc, Edit::new(alloc), source, sink),
         Form::Look(look) => run_request(alloc, look, source, sink),
+        Form::Props => run_request(alloc, TableSteps::new(alloc), source, sink),
     }
 }
 
 /// All that the program does: reads the source to its end, answers to the sink, and says how it
 /// ended.
 ///
-/// The command forms are `edit` and `look F F`. Line 1 of the input is `x` and an image in hex. For
-/// `look` it is the only line, and the answer is `some xV` or `none`, for the pair of keys that the
-/// fields are. For `edit` each further line is a command, which runs on the map that those before
-/// it left:
+/// The command forms are `edit`, `look F F` and `props`. Line 1 of the input is `x` and the bytes of
+/// an image, or of a table for `props`, in hex. For `look` it is the only line, and the answer is
+/// `some xV` or `none`, for the pair of keys that the fields are. For `edit` each further line is a
+/// command, which runs on the map that those before it left:
 ///
 /// - `get K K` looks up a pair of keys, and is answered `some xV`, or `none`;
 /// - `put K K F` gives a pair a value, and is answered `new`, `old xV` with the value that the pair
@@ -40,11 +42,21 @@ fn run_form<S: Source, K: Sink>(alloc: Global, form: Form, source: &mut S, sink:
 /// - `row K` lists the pairs of a first key in order, and is answered `row` and ` xK xV` for each,
 ///   or `none`.
 ///
+/// For `props` each further line asks or changes the table that those before it left, and the
+/// answer ends with `table xT`, the bytes of the one that is left:
+///
+/// - `at N` asks for the value of a code point, and is answered `value N`;
+/// - `set N N N` gives all code points from the first to the last a value, and is answered `ok`.
+///
+/// N is a number in decimal without leading zeros: a code point up to 1,114,111, the first not
+/// above the last, or a value up to 65,535.
+///
 /// A field F is `x` and an even number of hex digits in either case; a key K is a field that is
 /// UTF-8, and so are the fields of `look`. One space stands between words. Lines end in LF, which
 /// may be missing after the last. All lines are checked before the image. The answer of `edit` ends
 /// with `image xI`, the canonical image of the map that is left; its hex is in lower case. A
-/// refusal is one line, `error line N`, or `error` and the word of the image's first fault.
+/// refusal is one line, `error line N`, or `error` and the word of the image's first fault, or of the
+/// table's, `length`, or `row I`, `order I` or `join I` with the row's place from 0.
 #[tactic(auto, using(crate::proofs::Runs::memory_unless))]
 pub fn run<S: Source, K: Sink>(alloc: Global, words: &Words, source: &mut S, sink: &mut K) -> Status
     // Where a text is due, it is the one that the words and the whole input want.
