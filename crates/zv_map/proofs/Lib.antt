@@ -1,6 +1,7 @@
 pub mod Ascents
 pub mod Common
 pub mod FixedLists
+pub mod Flexes
 pub mod Permuted
 pub mod Places
 pub mod Ranges
