@@ -4,6 +4,8 @@
 #[cfg(test)]
 mod containers;
 #[cfg(test)]
+mod flex;
+#[cfg(test)]
 mod permutation;
 #[cfg(test)]
 mod searches;

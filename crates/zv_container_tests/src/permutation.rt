@@ -3,7 +3,7 @@ use std::alloc::Global;
 use std::process::Abort;
 use std::test::Fail;
 use zv_fixed::ZeroVec;
-use zv_map::ZeroVecPermute;
+use zv_map::{FlexVec, ZeroVecPermute};
 use zv_owned::VarZeroVec16;
 use zv_ule::{StrULE, ZvKind};
 
@@ -35,5 +35,7 @@ fn texts_are_turned(rt: HostRuntime) -> Result<(), Fail> {
     let mut list = VarZeroVec16::<'_, StrULE>::parse_bytes(bytes)?;
     let wanted = b"\x07\0\x02\0\x04\0\x06\0\x08\0\x0a\0\x0c\044332211776655";
     turns::<StrULE, VarZeroVec16<'_, StrULE>>(&rt, rt.alloc(), &mut list, wanted);
+    let mut list = FlexVec::<'_, StrULE>::parse_bytes(false, bytes)?;
+    turns::<StrULE, FlexVec<'_, StrULE>>(&rt, rt.alloc(), &mut list, wanted);
     Ok(())
 }

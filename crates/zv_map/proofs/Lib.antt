@@ -1,5 +1,6 @@
 pub mod Common
 pub mod FixedLists
+pub mod Flexes
 pub mod Permuted
 pub mod Places
 pub mod Ranges

@@ -1,4 +1,6 @@
 pub mod Elements
+pub mod Flexes
+pub mod FlexLaws
 pub mod Layouts
 pub mod Iters
 pub mod Keys

@@ -11,6 +11,7 @@
 pub mod copied;
 pub mod error;
 mod fixed;
+pub mod flex;
 pub mod iter;
 mod kv;
 pub mod laws;
@@ -23,6 +24,8 @@ pub mod view;
 
 pub use copied::{ZeroMapCopied, ZeroMapCopiedValues};
 pub use error::{MapError, TooLarge};
+pub use flex::FlexVec;
+pub use flex::kind::FlexULE;
 pub use iter::{KvSliceIter, ZeroMapIter, ZeroMapKeys, ZeroMapValues};
 pub use permute::ZeroVecPermute;
 pub use predicate::ZeroVecSearchBy;

@@ -54,7 +54,7 @@ pub record IsListed (w : ℕ) (K : List ℕ → Option UleError) (b : List ℕ) 
   pub long : 0 < length xs → length b ≡ w * length xs + length (concat xs)
   pub is : 0 < length xs → b ≡ flat_map (le w) (numbers xs) ++ concat xs
 
-encoded : (w : ℕ) (b : List ℕ) (xs : List (List ℕ)) → Part w b xs → 0 < length xs → b ≡ enc w xs
+pub encoded : (w : ℕ) (b : List ℕ) (xs : List (List ℕ)) → Part w b xs → 0 < length xs → b ≡ enc w xs
 encoded w b [] p h = absurd (omega arith)
 encoded w b (x ∷ xs) p h = p.1
 

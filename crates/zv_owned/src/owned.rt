@@ -239,6 +239,14 @@ impl<T: ZvKind, F: VarZeroVecFormat> VarZeroVecOwned<T, F> {
         self.shelf.spare()
     }
 
+    /// How many bytes the list can have without memory.
+    #[inline]
+    pub fn capacity(&self) -> usize
+        ensures { result ≡ length self.now.bytes + self.now.spare }
+    {
+        self.shelf.capacity()
+    }
+
     /// Makes room for `n` bytes more. After [`NoMemory`] the list is as it was.
     #[inline]
     pub fn reserve_bytes(&mut self, n: usize) -> Result<(), NoMemory>

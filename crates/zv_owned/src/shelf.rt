@@ -104,6 +104,14 @@ impl Shelf {
         self.room
     }
 
+    /// How many bytes fit without memory: those that there are, and the spare.
+    #[inline]
+    pub fn capacity(&self) -> usize
+        ensures { result ≡ length self.now.bytes + self.now.spare }
+    {
+        self.buffer.len() + self.room
+    }
+
     /// Makes room for `n` bytes more.
     ///
     /// # Errors

@@ -21,7 +21,7 @@ fn most<F: VarZeroVecFormat>() -> usize
 
 /// How many bytes a list in one format, of `count` elements, is written as in another.
 #[inline]
-fn size_of<T: ZvKind, F: VarZeroVecFormat, G: VarZeroVecFormat>(
+pub(crate) fn size_of<T: ZvKind, F: VarZeroVecFormat, G: VarZeroVecFormat>(
     list: VarZeroSlice<'_, T, F>,
     count: usize,
 ) -> usize

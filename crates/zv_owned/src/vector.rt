@@ -14,6 +14,7 @@ ghost use Rattle.zv_owned.specs.Size.{takes_insert, takes_pushes, takes_replace}
 
 mod changes;
 mod conversions;
+mod formats;
 mod slot;
 
 use crate::owned::{VarZeroVecOwned, room_for};
