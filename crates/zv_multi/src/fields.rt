@@ -1,7 +1,7 @@
 // Records of byte strings: where their fields lie.
 ghost use Rattle.std.specs.Prelude.{◌≡◌, ℕ, ◌+◌, ◌-◌, ◌*◌, ◌^◌, ◌<◌, ◌≤◌, List, ◌++◌, length, map};
-ghost use Rattle.std.specs.Prelude.{None};
-ghost use Rattle.std.specs.Prelude.{Some, drop, flat_map, slice_set, sum, take, IsTrue};
+ghost use Rattle.std.specs.Prelude.{None, Some, drop, flat_map, slice_set, sum, take, IsTrue};
+ghost use Rattle.std.specs.List.{concat};
 ghost use Rattle.std.specs.Result.{result_err};
 ghost use Rattle.zv_multi.specs.Records.{encoded_len, field_at, offsets, offsets_from};
 ghost use Rattle.zv_multi.specs.Records.{shape_fault};
@@ -13,7 +13,6 @@ ghost use Rattle.zv_var.specs.Format.{elements_after};
 ghost use Rattle.zv_var.specs.Laws.{HasStarts};
 ghost use Rattle.zv_var.specs.Serialize.{lengthless};
 ghost use Rattle.zv_var.specs.Views.{lengthless_list};
-ghost use Rattle.std.specs.List.{concat};
 
 use crate::any::AnyBytes;
 use std::marker::PhantomData;
@@ -22,7 +21,8 @@ use zv_ule::{
 };
 use zv_var::VarZeroLengthlessSlice;
 
-/// The kind of records of `LEN` fields of any bytes.
+/// The kind of records of `LEN` fields of any bytes, of which there is one at least. Bytes that are
+/// none are `ParseError { ty: Lengthless }`.
 pub struct MultiFieldsULE<const LEN: usize, F: VarZeroVecFormat> {
     of: PhantomData<F>,
 }
@@ -134,18 +134,18 @@ impl<const LEN: usize, F: VarZeroVecFormat> MultiFieldsULE<LEN, F> {
 /// Where a field starts and ends in a record.
 #[tactic(auto, using(zv_var::proofs::Lists::counts))]
 #[inline]
-fn span<const LEN: usize, F: VarZeroVecFormat>(idx: usize, record: &[u8]) -> (usize, usize)
+fn span<const LEN: usize, F: VarZeroVecFormat>(idx: usize, bytes: &[u8]) -> (usize, usize)
     requires count { IsTrue (is_width LEN) }
     requires place { idx < LEN }
-    requires shape { shape_fault F.W LEN record.now ≡ None }
+    requires shape { shape_fault F.W LEN bytes.now ≡ None }
     ensures start { result.0 ≡ F.W * (LEN - 1)
-        + length (concat (take idx (elements_after F.W LEN record.now))) }
-    ensures end { result.1 ≡ result.0 + length (field_at (elements_after F.W LEN record.now) idx) }
-    ensures within { result.1 ≤ length record.now }
-    ensures written { record.now ≡ lengthless F.W (elements_after F.W LEN record.now) }
-    ensures numbered { HasStarts F.W (elements_after F.W LEN record.now) }
+        + length (concat (take idx (elements_after F.W LEN bytes.now))) }
+    ensures end { result.1 ≡ result.0 + length (field_at (elements_after F.W LEN bytes.now) idx) }
+    ensures within { result.1 ≤ length bytes.now }
+    ensures written { bytes.now ≡ lengthless F.W (elements_after F.W LEN bytes.now) }
+    ensures numbered { HasStarts F.W (elements_after F.W LEN bytes.now) }
 {
-    let fields = VarZeroLengthlessSlice::<'_, AnyBytes, F>::of_valid(LEN as u32, record);
+    let fields = VarZeroLengthlessSlice::<'_, AnyBytes, F>::of_valid(LEN as u32, bytes);
     let start = F::W * (LEN - 1) + fields.offset(idx);
     (start, start + field_bytes(fields, idx).len())
 }

@@ -18,7 +18,12 @@ use std::sync::ledger::Ledger;
 use zv_ule::{Steps, TyName, UleError, VarRef, VarULE, VarZeroVecFormat, ZvKind, ZvOrd};
 use zv_var::VarZeroLengthlessSlice;
 
-/// The kind of records of `LEN` fields, which have the kinds `K` in turn.
+/// The kind of records of `LEN` fields, which have the kinds `K` in turn: where each field but the
+/// first starts, and then the fields, with nothing between them. They compare field by field.
+///
+/// # Errors
+/// `ParseError { ty: Lengthless }` where the starts are cut or a field lies wrong, and else the
+/// error of the first field that is not valid.
 pub struct RecordULE<const LEN: usize, K: FieldKinds, F: VarZeroVecFormat> {
     of: PhantomData<(K, F)>,
 }

@@ -26,7 +26,8 @@ impl<A: UsableKind, B: UsableKind, C: UsableKind, F: VarZeroVecFormat> UsableKin
 
 impl<A: UsableKind, B: UsableKind, C: UsableKind, D: UsableKind, F: VarZeroVecFormat> UsableKind
     for Tuple4VarULE<A, B, C, D, F> {
-    ghost is_usable = { both (both A.is_usable (both B.is_usable (both C.is_usable (both D.is_usable refl)))) refl };
+    ghost is_usable = { both (both A.is_usable (both B.is_usable
+        (both C.is_usable (both D.is_usable refl)))) refl };
 }
 
 impl<
@@ -37,7 +38,8 @@ impl<
     E: UsableKind,
     F: VarZeroVecFormat,
 > UsableKind for Tuple5VarULE<A, B, C, D, E, F> {
-    ghost is_usable = { both (both A.is_usable (both B.is_usable (both C.is_usable (both D.is_usable (both E.is_usable refl))))) refl };
+    ghost is_usable = { both (both A.is_usable (both B.is_usable
+        (both C.is_usable (both D.is_usable (both E.is_usable refl))))) refl };
 }
 
 impl<
@@ -49,5 +51,6 @@ impl<
     G: UsableKind,
     F: VarZeroVecFormat,
 > UsableKind for Tuple6VarULE<A, B, C, D, E, G, F> {
-    ghost is_usable = { both (both A.is_usable (both B.is_usable (both C.is_usable (both D.is_usable (both E.is_usable (both G.is_usable refl)))))) refl };
+    ghost is_usable = { both (both A.is_usable (both B.is_usable
+        (both C.is_usable (both D.is_usable (both E.is_usable (both G.is_usable refl)))))) refl };
 }

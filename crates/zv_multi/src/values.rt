@@ -1,14 +1,13 @@
 // Values that are written as the fields of a record: one value, and the values behind it.
-ghost use Rattle.std.specs.Prelude.{◌≡◌, ℕ, ◌==◌, ◌^◌, ◌<◌, Bool, true, ◌&&◌, List, [], ◌∷◌, ◌++◌};
-ghost use Rattle.std.specs.Prelude.{length, map};
-ghost use Rattle.std.specs.Prelude.{None, is_some, IsTrue, IfSome};
+ghost use Rattle.std.specs.Prelude.{◌≡◌, ℕ, ◌^◌, ◌<◌, Bool, true, List, [], ◌∷◌, ◌++◌};
+ghost use Rattle.std.specs.Prelude.{length, map, None, is_some, IsTrue, IfSome};
 ghost use Rattle.std.specs.List.{concat, list_all};
-ghost use Rattle.zv_multi.specs.Records.{fields_fault, record_fault, record_len};
-ghost use Rattle.zv_ule.specs.Fixed.{is_width};
+ghost use Rattle.zv_multi.specs.Records.{fields_fault, record_len};
 ghost use Rattle.zv_var.specs.Serialize.{lengthless};
 
 use crate::fields::MultiFieldsULE;
 use crate::kinds::{End, Field, FieldKinds};
+use crate::record::RecordULE;
 use zv_ule::{EncodeAsVarULE, VarZeroVecFormat, ZvKind};
 
 /// Values that spell the fields of a record, one after another.
@@ -88,12 +87,12 @@ impl<A: ZvKind, R: FieldKinds, X: EncodeAsVarULE<A>, V: FieldValues<R>> FieldVal
 fn lengths_of<const LEN: usize, K: FieldKinds, V: FieldValues<K>, F: VarZeroVecFormat>(
     values: &V,
 ) -> [usize; LEN]
-    requires usable { IsTrue K.usable }
-    requires count { IsTrue (is_width LEN && (length K.faults == LEN)) }
+    requires usable { IsTrue ⟦<RecordULE<LEN, K, F> as ZvKind>⟧.usable }
     requires fit { IsTrue (list_all (λ b. b) (V.fits values.now)) }
     ensures lengths { result ≡ map length (V.spellings values.now) }
     ensures spells { IsTrue (is_some (record_len F.W (V.fits values.now) (V.spellings values.now)))
-        → record_fault F.W LEN K.faults (lengthless F.W (V.spellings values.now)) ≡ None }
+        → ⟦<RecordULE<LEN, K, F> as ZvKind>⟧.fault
+        (lengthless F.W (V.spellings values.now)) ≡ None }
 {
     let mut lengths = [0; LEN];
     values.measure(&mut lengths);
@@ -105,10 +104,9 @@ fn lengths_of<const LEN: usize, K: FieldKinds, V: FieldValues<K>, F: VarZeroVecF
 pub(crate) fn record_len<const LEN: usize, K: FieldKinds, V: FieldValues<K>, F: VarZeroVecFormat>(
     values: &V,
 ) -> Option<usize>
-    requires usable { IsTrue K.usable }
-    requires count { IsTrue (is_width LEN && (length K.faults == LEN)) }
+    requires usable { IsTrue ⟦<RecordULE<LEN, K, F> as ZvKind>⟧.usable }
     ensures len { result ≡ record_len F.W (V.fits values.now) (V.spellings values.now) }
-    ensures spells { IfSome result (λ _. record_fault F.W LEN K.faults
+    ensures spells { IfSome result (λ _. ⟦<RecordULE<LEN, K, F> as ZvKind>⟧.fault
         (lengthless F.W (V.spellings values.now)) ≡ None) }
 {
     if !values.all_fit() {
@@ -123,12 +121,11 @@ pub(crate) fn record_len<const LEN: usize, K: FieldKinds, V: FieldValues<K>, F: 
 pub(crate) fn fitting_len<const LEN: usize, K: FieldKinds, V: FieldValues<K>, F: VarZeroVecFormat>(
     values: &V,
 ) -> usize
-    requires usable { IsTrue K.usable }
-    requires count { IsTrue (is_width LEN && (length K.faults == LEN)) }
+    requires usable { IsTrue ⟦<RecordULE<LEN, K, F> as ZvKind>⟧.usable }
     requires fit { IsTrue (is_some (record_len F.W (V.fits values.now) (V.spellings values.now))) }
     ensures len { result ≡ length (lengthless F.W (V.spellings values.now)) }
-    ensures spells { record_fault F.W LEN K.faults (lengthless F.W (V.spellings values.now))
-        ≡ None }
+    ensures spells { ⟦<RecordULE<LEN, K, F> as ZvKind>⟧.fault
+        (lengthless F.W (V.spellings values.now)) ≡ None }
 {
     match record_len::<LEN, K, V, F>(values) {
         Some(len) => len,
@@ -142,13 +139,12 @@ pub(crate) fn write_record<const LEN: usize, K: FieldKinds, V: FieldValues<K>, F
     values: &V,
     out: &mut [u8],
 )
-    requires usable { IsTrue K.usable }
-    requires count { IsTrue (is_width LEN && (length K.faults == LEN)) }
+    requires usable { IsTrue ⟦<RecordULE<LEN, K, F> as ZvKind>⟧.usable }
     requires fit { IsTrue (is_some (record_len F.W (V.fits values.now) (V.spellings values.now))) }
     requires whole { length out.old ≡ length (lengthless F.W (V.spellings values.now)) }
     ensures written { out.new ≡ lengthless F.W (V.spellings values.now) }
-    ensures spells { record_fault F.W LEN K.faults (lengthless F.W (V.spellings values.now))
-        ≡ None }
+    ensures spells { ⟦<RecordULE<LEN, K, F> as ZvKind>⟧.fault
+        (lengthless F.W (V.spellings values.now)) ≡ None }
 {
     let lengths = lengths_of::<LEN, K, V, F>(values);
     MultiFieldsULE::<LEN, F>::new_from_lengths_partially_initialized(lengths, out);
