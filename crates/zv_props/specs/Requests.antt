@@ -1,5 +1,5 @@
 -- What is due to a table and the lines that follow it.
-use Rattle.std.specs.Prelude.{◌≡◌, ℕ, List, [], ◌∷◌, ◌++◌, codes, flat_map}
+use Rattle.std.specs.Prelude.{◌≡◌, ℕ, List, [], ◌∷◌, ◌++◌, codes}
 use Rattle.std.specs.Fmt.{decimal}
 use Rattle.std.specs.Option.{option_map}
 use Rattle.std.specs.declared.option.Option.{Option}
@@ -21,45 +21,36 @@ use Rattle.zv_props.specs.declared.step.Step.TheVariants.{At, Set}
 abbrev pub with_step : List Step → List ℕ → Option (List Step)
 with_step steps line = option_map (λ s. steps ++ s ∷ []) (step_of (words line))
 
--- what a step is answered: a value for a code point that is asked, and nothing for a range
-abbrev pub reply : List Row → Step → Option ℕ
-reply rows (At c) = Some (value_at rows c)
-reply rows (Set first last value) = None
+-- the line that a step is answered with, by the rows that answer before it
+abbrev pub reply : List Row → Step → List ℕ
+reply rows (At c) = line (codes "value " ++ decimal (value_at rows c))
+reply rows (Set first last value) = line (codes "ok")
 
 -- the rows that answer after a step: a range lies on top of those before it
 abbrev pub after_step : List Row → Step → List Row
 after_step rows (At c) = rows
 after_step rows (Set first last value) = (first, last, value) ∷ rows
 
--- what steps are answered, each after those before it
-abbrev pub replies : List Row → List Step → List (Option ℕ)
+-- the replies to steps, each after those before it
+abbrev pub replies : List Row → List Step → List ℕ
 replies rows [] = []
-replies rows (step ∷ steps) = reply rows step ∷ replies (after_step rows step) steps
+replies rows (step ∷ steps) = reply rows step ++ replies (after_step rows step) steps
 
 -- the rows that answer after all steps
 abbrev pub after_all : List Row → List Step → List Row
 after_all rows [] = rows
 after_all rows (step ∷ steps) = after_all (after_step rows step) steps
 
--- the line of a reply
-abbrev pub reply_line : Option ℕ → List ℕ
-reply_line None = line (codes "ok")
-reply_line (Some value) = line (codes "value " ++ decimal value)
-
--- the line of a table's bytes
-abbrev pub table_line : List ℕ → List ℕ
-table_line bytes = line (codes "table " ++ hex_field bytes)
-
--- the lines of the replies
-abbrev pub reply_lines : List (Option ℕ) → List ℕ
-reply_lines rs = flat_map reply_line rs
+-- the line of a table
+abbrev pub table_line : List Row → List ℕ
+table_line rows = line (codes "table " ++ hex_field (table_bytes rows))
 
 -- a text that answers these steps: the replies, and the one proper table that all steps leave
-pub record IsAnswer (bytes : List ℕ) (steps : List Step) (text : List ℕ) : Type 0 where
+pub record IsAnswer (rows : List Row) (steps : List Step) (text : List ℕ) : Type 0 where
   pub table : List Row
   pub proper : IsProper table
-  pub alike : AnswerAlike table (after_all (rows_of bytes) steps)
-  pub is : text ≡ reply_lines (replies (rows_of bytes) steps) ++ table_line (table_bytes table)
+  pub alike : AnswerAlike table (after_all rows steps)
+  pub is : text ≡ replies rows steps ++ table_line table
 
 -- the line of bytes that are no table
 abbrev pub fault_line : PropsError → List ℕ
@@ -74,4 +65,4 @@ fault_due (Some e) Answer = text_due (fault_line e) BadImage
 
 -- the line of the bytes' first fault, or the texts that answer the steps
 unfoldable pub props_due : List ℕ → List Step → Due
-props_due bytes steps = fault_due (table_fault bytes) (IsAnswer bytes steps)
+props_due bytes steps = fault_due (table_fault bytes) (IsAnswer (rows_of bytes) steps)

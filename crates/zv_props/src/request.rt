@@ -1,27 +1,23 @@
 // The form `props`: a table, and the lines that ask it and change it.
-ghost use Rattle.std.specs.Prelude.{◌≡◌, [], ◌∷◌, ◌++◌, IfOk, OnOk, None, Some};
+ghost use Rattle.std.specs.Prelude.{◌≡◌, [], ◌∷◌, ◌++◌, IfOk, OnOk, string_bytes};
+ghost use Rattle.std.specs.Fmt.{decimal};
 ghost use Rattle.std.specs.List.{AllByRecursion};
 ghost use Rattle.zv_command.specs.Due.{Tells, text_due};
-ghost use Rattle.std.specs.Fmt.{decimal};
-ghost use Rattle.zv_command.specs.Sending.{Sends};
 ghost use Rattle.zv_command.specs.Text.{line};
 ghost use Rattle.zv_command.specs.declared.status.Status.{Status};
-ghost use Rattle.zv_devices.specs.Devices.{HasCause, Takes};
-ghost use Rattle.zv_props.specs.Faults.{table_fault};
-ghost use Rattle.zv_props.specs.Requests.{after_all, after_step, fault_due, fault_line, replies};
-ghost use Rattle.zv_props.specs.Requests.{reply, reply_line, reply_lines, table_line};
+ghost use Rattle.zv_props.specs.Requests.{IsAnswer, after_all, after_step, fault_line, replies};
+ghost use Rattle.zv_props.specs.Requests.{reply, table_line};
 ghost use Rattle.zv_props.specs.Steps.{IsStep};
-ghost use Rattle.zv_props.specs.Stored.{table_bytes};
 ghost use Rattle.zv_props.specs.Tables.{AnswerAlike, IsProper};
 
 use crate::error::PropsError;
 use crate::step::{Step, read_step};
 use crate::table::Props;
 use itoa::Buffer;
-use std::alloc::Global;
+use std::alloc::{AllocError, Global};
 use std::marker::Model;
-use zv_command::{Output, Request, Status, write_value};
-use zv_devices::{Failed, Sink};
+use zv_command::{Request, Status, send};
+use zv_devices::Sink;
 use zv_ule::NoMemory;
 
 /// Steps, each of which is a line: `at N` asks for the value of a code point, and `set N N N` gives
@@ -55,146 +51,96 @@ impl TableSteps {
     }
 }
 
-// Takes a step: what it is answered, and the table that it leaves.
-fn take_step(alloc: Global, table: &mut Props<'_>, step: Step) -> Result<Option<u16>, NoMemory>
-    requires { IsStep step }
-    ensures reply { IfOk result (λ r. r ≡ reply table.old step) }
-    ensures table { OnOk result (AnswerAlike table.new (after_step table.old step)) }
-{
-    match step {
-        Step::At(c) => Ok(Some(table.get(c))),
-        Step::Set(first, last, value) => {
-            table.set(alloc, first, last, value)?;
-            Ok(None)
-        }
-    }
-}
-
-// Takes all steps.
-fn take_steps(
-    alloc: Global,
-    table: &mut Props<'_>,
-    steps: &[Step],
-) -> Result<Vec<Option<u16>>, NoMemory>
-    requires { AllByRecursion IsStep steps.now }
-    ensures replies { IfOk result (λ r. r.items ≡ replies table.old steps.now) }
-    ensures table { OnOk result (AnswerAlike table.new (after_all table.old steps.now)) }
-{
-    let mut answers = Vec::with_capacity(alloc, steps.len())?;
-    for step in steps {
-        let answer = take_step(alloc, table, *step)?;
-        if answers.push(answer).is_err() {
-            return Err(NoMemory);
-        }
-    }
-    Ok(answers)
-}
-
-// Writes a head and a number.
-#[tactic(auto, using(zv_command::proofs::Sending::sends_more))]
-fn write_digits<K: Sink>(out: &mut Output<'_, K>, head: &[u8], number: u64) -> Result<(), Failed>
-    ensures { Sends K.taken K.faults out.old out.new result (head.now ++ decimal number) }
+// Adds the line of a head and a number.
+fn push_number(text: &mut Vec<u8>, head: &[u8], number: u64) -> Result<(), NoMemory>
+    ensures { OnOk result (text.new.items
+        ≡ text.old.items ++ line (head.now ++ decimal number)) }
 {
     let mut buffer = Buffer::new();
-    let digits = buffer.format(number);
-    out.write(head)?;
-    out.write(digits.as_bytes())
-}
-
-// Writes the line of a head and a number.
-#[tactic(auto, using(zv_command::proofs::Sending::sends_more))]
-fn write_number<K: Sink>(out: &mut Output<'_, K>, head: &[u8], number: u64) -> Result<(), Failed>
-    ensures { Sends K.taken K.faults out.old out.new result (line (head.now ++ decimal number)) }
-{
-    write_digits(out, head, number)?;
-    out.write(b"\n")
-}
-
-// Writes the line of a reply.
-fn write_reply<K: Sink>(out: &mut Output<'_, K>, reply: Option<u16>) -> Result<(), Failed>
-    ensures { Sends K.taken K.faults out.old out.new result (reply_line reply) }
-{
-    match reply {
-        None => out.write(b"ok\n"),
-        Some(value) => write_number(out, b"value ", u64::from(value)),
-    }
-}
-
-// Writes the lines of replies.
-#[tactic(auto, using(zv_command::proofs::Sending::sends_more))]
-fn write_replies<K: Sink>(out: &mut Output<'_, K>, replies: &[Option<u16>]) -> Result<(), Failed>
-    ensures { Sends K.taken K.faults out.old out.new result (reply_lines replies.now) }
-{
-    for reply in replies {
-        write_reply(out, *reply)?;
-    }
+    text.extend_from_slice(head)?;
+    text.extend_from_slice(buffer.format(number).as_bytes())?;
+    text.extend_from_slice(b"\n")?;
     Ok(())
 }
 
-// Writes the lines of replies, and that of a table's bytes.
-#[tactic(auto, using(zv_command::proofs::Sending::sends_more))]
-fn write_lines<K: Sink>(
-    out: &mut Output<'_, K>,
-    replies: &[Option<u16>],
-    table: &[u8],
-) -> Result<(), Failed>
-    ensures { Sends K.taken K.faults out.old out.new result
-        (reply_lines replies.now ++ table_line table.now) }
+// Takes a step: adds its reply to a text, and leaves the table that it makes.
+fn take_step(
+    alloc: Global,
+    table: &mut Props<'_>,
+    step: Step,
+    text: &mut Vec<u8>,
+) -> Result<(), NoMemory>
+    requires { IsStep step }
+    ensures reply { OnOk result (text.new.items ≡ text.old.items ++ reply table.old step) }
+    ensures table { OnOk result (AnswerAlike table.new (after_step table.old step)) }
 {
-    write_replies(out, replies)?;
-    write_value(out, b"table x", table)
-}
-
-// The same, and sends them.
-fn send_lines<K: Sink>(
-    out: &mut Output<'_, K>,
-    replies: &[Option<u16>],
-    table: &[u8],
-) -> Result<(), Failed>
-    ensures text { Sends K.taken K.faults out.old out.new result
-        (reply_lines replies.now ++ table_line table.now) }
-    ensures sent { OnOk result (out.new.piece ≡ []) }
-{
-    write_lines(out, replies, table)?;
-    out.send()
-}
-
-// Tells replies and a table's bytes.
-fn tell<K: Sink>(replies: &[Option<u16>], table: &[u8], sink: &mut K) -> Result<(), Failed>
-    ensures text { Takes (K.taken sink.old) (K.taken sink.new) result
-        (reply_lines replies.now ++ table_line table.now) }
-    ensures cause { HasCause (K.faults sink.old) (K.faults sink.new) result }
-{
-    send_lines(&mut Output::new(sink), replies, table)
-}
-
-// Writes the line of bytes that are no table.
-fn write_fault<K: Sink>(out: &mut Output<'_, K>, cause: PropsError) -> Result<(), Failed>
-    ensures { Sends K.taken K.faults out.old out.new result (fault_line cause) }
-{
-    match cause {
-        PropsError::Ule(_) => out.write(b"error length\n"),
-        PropsError::Row { index } => write_number(out, b"error row ", index as u64),
-        PropsError::Order { index } => write_number(out, b"error order ", index as u64),
-        PropsError::Join { index } => write_number(out, b"error join ", index as u64),
+    match step {
+        Step::At(c) => push_number(text, b"value ", u64::from(table.get(c))),
+        Step::Set(first, last, value) => {
+            table.set(alloc, first, last, value)?;
+            text.extend_from_slice(b"ok\n")?;
+            Ok(())
+        }
     }
 }
 
-// The same, and sends it.
-fn send_fault<K: Sink>(out: &mut Output<'_, K>, cause: PropsError) -> Result<(), Failed>
-    ensures text { Sends K.taken K.faults out.old out.new result (fault_line cause) }
-    ensures sent { OnOk result (out.new.piece ≡ []) }
+// Takes all steps, and gives the replies.
+fn take_steps(alloc: Global, table: &mut Props<'_>, steps: &[Step]) -> Result<Vec<u8>, NoMemory>
+    requires { AllByRecursion IsStep steps.now }
+    ensures replies { IfOk result (λ text. text.items ≡ replies table.old steps.now) }
+    ensures table { OnOk result (AnswerAlike table.new (after_all table.old steps.now)) }
 {
-    write_fault(out, cause)?;
-    out.send()
+    let mut text = Vec::new(alloc);
+    for step in steps {
+        take_step(alloc, table, *step, &mut text)?;
+    }
+    Ok(text)
 }
 
-// Tells why bytes are no table.
-fn tell_fault<K: Sink>(cause: PropsError, sink: &mut K) -> Result<(), Failed>
-    ensures text { Takes (K.taken sink.old) (K.taken sink.new) result (fault_line cause) }
-    ensures cause { HasCause (K.faults sink.old) (K.faults sink.new) result }
+// Adds the line of a table.
+fn push_table(alloc: Global, text: &mut Vec<u8>, table: &Props<'_>) -> Result<(), NoMemory>
+    ensures text { OnOk result (text.new.items ≡ text.old.items ++ table_line table.now) }
+    ensures proper { IsProper table.now }
 {
-    send_fault(&mut Output::new(sink), cause)
+    let digits = hex::encode(alloc, table.as_bytes())?;
+    text.extend_from_slice(b"table x")?;
+    text.extend_from_slice(digits.as_bytes())?;
+    text.extend_from_slice(b"\n")?;
+    Ok(())
+}
+
+// The whole answer. It is worked out before its first byte is written, since a range may want
+// memory.
+fn answer_text(alloc: Global, mut table: Props<'_>, steps: &[Step]) -> Result<Vec<u8>, NoMemory>
+    requires { AllByRecursion IsStep steps.now }
+    ensures { IfOk result (λ text. IsAnswer table.entry steps.now text.items) }
+{
+    let mut text = take_steps(alloc, &mut table, steps)?;
+    push_table(alloc, &mut text, &table)?;
+    Ok(text)
+}
+
+// The line of bytes that are no table.
+fn fault_text(alloc: Global, cause: PropsError) -> Result<String, AllocError>
+    ensures { IfOk result (λ text. string_bytes text ≡ fault_line cause) }
+{
+    match cause {
+        PropsError::Ule(_) => format!(in alloc; "error length\n"),
+        PropsError::Row { index } => format!(in alloc; "error row {index}\n"),
+        PropsError::Order { index } => format!(in alloc; "error order {index}\n"),
+        PropsError::Join { index } => format!(in alloc; "error join {index}\n"),
+    }
+}
+
+// Refuses bytes that are no table.
+fn refuse<K: Sink>(alloc: Global, cause: PropsError, sink: &mut K) -> Status
+    ensures { Tells K.taken K.faults sink.old sink.new result
+        (text_due (fault_line cause) Status.BadImage) }
+{
+    let Ok(text) = fault_text(alloc, cause) else {
+        return Status::Memory;
+    };
+    send(sink, text.as_bytes(), Status::BadImage)
 }
 
 impl TableSteps {
@@ -230,36 +176,13 @@ impl Request for TableSteps {
     }
 
     fn answer<K: Sink>(&self, alloc: Global, first: &[u8], sink: &mut K) -> Status {
-        let mut table = match Props::parse(first) {
+        let table = match Props::parse(first) {
             Ok(table) => table,
-            Err(cause) => return refuse(sink, cause),
+            Err(cause) => return refuse(alloc, cause, sink),
         };
-        let Ok(replies) = take_steps(alloc, &mut table, &self.steps) else {
+        let Ok(text) = answer_text(alloc, table, &self.steps) else {
             return Status::Memory;
         };
-        tell_answer(&replies, &table, sink)
-    }
-}
-
-// Answers with replies and the table that is left.
-fn tell_answer<K: Sink>(replies: &[Option<u16>], table: &Props<'_>, sink: &mut K) -> Status
-    ensures told { Tells K.taken K.faults sink.old sink.new result (text_due
-        (reply_lines replies.now ++ table_line (table_bytes table.now)) Status.Done) }
-    ensures proper { IsProper table.now }
-{
-    match tell(replies, table.as_bytes(), sink) {
-        Ok(()) => Status::Done,
-        Err(Failed) => Status::WriteFault,
-    }
-}
-
-// Refuses bytes that are no table.
-fn refuse<K: Sink>(sink: &mut K, cause: PropsError) -> Status
-    ensures { Tells K.taken K.faults sink.old sink.new result
-        (text_due (fault_line cause) Status.BadImage) }
-{
-    match tell_fault(cause, sink) {
-        Ok(()) => Status::BadImage,
-        Err(Failed) => Status::WriteFault,
+        send(sink, &text, Status::Done)
     }
 }

@@ -1,6 +1,7 @@
-use Rattle.zv_props.proofs.Common.{◌≡◌, ◌∙◌, None, sym}
-use Rattle.zv_props.proofs.Steps.{bad_due, good_due, is_answer, tells_answer}
-use Rattle.zv_props.specs.Requests.{IsAnswer}
+use Rattle.zv_props.proofs.Common.{sym}
+use Rattle.std.proofs.Common.{refl}
+use Rattle.zv_command.proofs.Telling.{tells_sent}
+use Rattle.zv_props.proofs.Steps.{bad_due, good_due}
 use Rattle.zv_props.proofs.request.TableStepsRequest.answer.Goals as goal
 
 pub returns-in-Err : goal.returns-in-Err
@@ -8,8 +9,6 @@ returns-in-Err g c = rw (bad_due c.args.first.now c.args.self.now c.in-Err.cause
 
 pub returns : goal.returns
 returns g c =
-    let first = c.args.first.now in
-    let steps = c.args.self.now in
-    let is = is_answer first c.in-Ok.table c.take_steps.new.table steps _ _ c.in-Ok.ensures.rows (c.deref.ensures.value ∙ c.self.view_is) c.in-Ok-take_steps.ensures.replies
-    c.in-Ok-take_steps.ensures.table c.tell_answer.ensures.proper in
-    rw (good_due first steps (sym c.in-Ok.ensures.error)) (tells_answer (IsAnswer first steps) _ (rw c.deref-2.ensures.value is) c.tell_answer.ensures.told)
+    let is = rw (c.deref.ensures.value, c.self.view_is, c.in-Ok.ensures.rows) at c.in-Ok-answer_text.ensures in
+    rw (good_due c.args.first.now c.args.self.now (sym c.in-Ok.ensures.error))
+    (tells_sent _ refl (rw c.deref-2.ensures.value is) c.send.ensures.sent c.send.ensures.later)
