@@ -1,5 +1,5 @@
 -- The laws of a list with fields of two bytes or of four as a container. These are proofs.
-use Rattle.std.specs.Prelude.{◌≡◌, ℕ, ◌^◌, ◌<◌, ◌≤◌, true}
+use Rattle.std.specs.Prelude.{◌≡◌, ◌^◌, ◌<◌, ◌≤◌, true}
 use Rattle.std.proofs.Common.{arith, refl}
 use Rattle.std.proofs.lemmas.Bool.Decides.{nat_tests}
 use Rattle.zv_ule.specs.declared.kind.ZvKind.{Ghosts as KindGhosts}

@@ -4,7 +4,7 @@ use Rattle.std.specs.Prelude.{if◌then◌else◌}
 use Rattle.zv_ule.specs.declared.kind.ZvKind.{Ghosts as KindGhosts}
 use Rattle.zv_owned.specs.Size.{size}
 use Rattle.zv_owned.specs.Vectors.{vector_bytes, vector_list, vector_owned, vector_spare}
-use Rattle.zv_map.specs.Layouts.{written}
+use Rattle.zv_map.specs.Layouts.{encoding_in}
 use Rattle.zv_map.specs.declared.flex.FlexVec.{FlexVec}
 use Rattle.zv_map.specs.declared.flex.FlexVec.TheVariants.{Narrow, Wide}
 use Rattle.zv_map.specs.declared.view.Layout.{Layout}
@@ -50,7 +50,7 @@ module _ {T : Type 0} {kind : KindGhosts T} where
 
   -- its bytes are those that the list is written as in its form
   abbrev pub IsExact : FlexVec T kind → Type 0
-  IsExact v = flex_bytes v ≡ written (flex_layout v) (flex_list v)
+  IsExact v = flex_bytes v ≡ encoding_in (flex_layout v) (flex_list v)
 
 -- whether the layout has fields
 abbrev pub has_fields : Layout → Bool

@@ -1,8 +1,7 @@
 // Changes of a list with fields of two bytes or of four.
 ghost use Rattle.std.specs.Prelude.{◌≡◌, ◌+◌, ◌<◌, ◌≤◌, ◌||◌, ◌^◌, length, not, set, true, OnErr};
-ghost use Rattle.std.specs.Prelude.{IfOk, OnOk};
+ghost use Rattle.std.specs.Prelude.{OnOk};
 ghost use Rattle.std.specs.List.{insert, remove};
-ghost use Rattle.zv_ule.specs.Views.{element_of};
 ghost use Rattle.zv_owned.specs.Size.{takes_insert, takes_replace};
 ghost use Rattle.zv_map.specs.Keys.{nth};
 

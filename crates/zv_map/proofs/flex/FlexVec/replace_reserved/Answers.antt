@@ -1,4 +1,4 @@
-use Rattle.std.proofs.Common.{◌∙◌, ◌+◌, ◌≡◌, ap, arith, length, refl}
+use Rattle.std.proofs.Common.{◌∙◌, ◌≡◌, ap, arith, length, refl}
 use Rattle.std.proofs.Common.{length-set}
 use Rattle.zv_owned.specs.Vectors.{vector_list}
 use Rattle.zv_map.proofs.Flexes.{narrow_roomy, narrow_spare, roomy_owned}
