@@ -1,7 +1,6 @@
 -- Bytes that are cut into fields of given lengths.
 use Rattle.std.proofs.Common.{◌≡◌, ℕ, ◌+◌, ◌-◌, ◌*◌, ◌^◌, ◌<◌, ◌≤◌, List, [], ◌∷◌, ◌++◌, length, map, sum, take, drop, Some, None, refl, ap, ap₂, ◌∙◌, sym}
-use Rattle.std.proofs.Common.{arith}
-use Rattle.std.proofs.Common.{length-drop}
+use Rattle.std.proofs.Common.{arith, length-drop}
 use Rattle.std.proofs.lemmas.List.{length-map, length-take-le, take-append-drop}
 use Rattle.std.proofs.lemmas.List.Sums.{sum_by-cons}
 use Rattle.std.specs.List.{concat, flat_map}

@@ -1,8 +1,6 @@
 -- A field that is written over.
 use Rattle.std.proofs.Common.{◌≡◌, ℕ, zero, suc, ◌+◌, ◌-◌, ◌*◌, ◌<◌, ◌≤◌, List, [], ◌∷◌, ◌++◌, length, map, take, drop, get_or}
-use Rattle.std.proofs.Common.{set, Fits, w8, Option, Some, None}
-use Rattle.std.proofs.Common.{refl, ap, ◌∙◌}
-use Rattle.std.proofs.Common.{sym, arith, length-append, append_assoc}
+use Rattle.std.proofs.Common.{set, Fits, w8, Option, Some, None, refl, ap, ◌∙◌, sym, arith, length-append, append_assoc}
 use Rattle.std.proofs.lemmas.List.{drop_at, length-set, set-get_or, take_at}
 use Rattle.std.specs.List.{concat, flat_map}
 use borrow.Rule.Slice.PartMut.{put_mid}

@@ -1,7 +1,6 @@
 -- What values are written as, by the lengths of their spellings.
 use Rattle.std.proofs.Common.{◌≡◌, ℕ, ◌+◌, ◌-◌, ◌*◌, ◌^◌, ◌<◌, ◌≤◌, Bool, true, List, [], ◌∷◌, ◌++◌, length, map, sum, Option, None, Some, is_some, refl, ap}
-use Rattle.std.proofs.Common.{◌∙◌}
-use Rattle.std.proofs.Common.{sym, arith, length-append, take}
+use Rattle.std.proofs.Common.{◌∙◌, sym, arith, length-append, take}
 use Rattle.std.proofs.lemmas.List.{length-map, take_at}
 use Rattle.std.proofs.lemmas.List.Concat.{concat_is, length-flat_map}
 use Rattle.std.proofs.lemmas.List.Sums.{sum-map}
