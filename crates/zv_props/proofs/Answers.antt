@@ -56,7 +56,8 @@ module _ (rows : List Row) (c place : ℕ) (proper : IsProper rows) (is : IsPlac
   in_row high = at_place ∙ inside _ (drop place rows) c (omega (arith, is.before some)) high
 
   pub past_row : (row_at rows (place - 1)).1 < c → IsProper (drop place rows) → value_at rows c ≡ 0
-  past_row low rest = at_place ∙ (outside _ (drop place rows) c (λ first last. omega arith) ∙ none_below c (c + 1) (drop place rows) (omega arith) rest is.after)
+  past_row low rest =
+      at_place ∙ (outside _ (drop place rows) c (λ first last. omega arith) ∙ none_below c (c + 1) (drop place rows) (omega arith) rest is.after)
 
 pub proper_back : (xs ys : List Row) → IsProper (xs ++ ys) → IsProper ys
 proper_back [] ys proper = proper

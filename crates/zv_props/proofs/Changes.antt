@@ -172,7 +172,9 @@ whole r rows front mid back f m b order =
       proper = join_proper (r.1 + 1) (join front mid) back both b.proper ends b.begins;
       same = λ c.
           elim (cases_lt r.1 c) [
-            | inl above ↦ join_above (r.1 + 1) (join front mid) back c both ends b.begins (omega arith) ∙ b.same c above ∙ sym (outside r rows c (λ low high. omega arith))
+            | inl above ↦
+                join_above (r.1 + 1) (join front mid) back c both ends b.begins (omega arith) ∙ b.same c above
+                ∙ sym (outside r rows c (λ low high. omega arith))
             | inr to ↦
                 join_below (r.1 + 1) (join front mid) back c b.proper ends b.begins (omega arith)
                 ∙ elim (cases_lt c r.0) as (λ _. value_at (join front mid) c ≡ value_at (r ∷ rows) c) [
@@ -205,7 +207,8 @@ left_ends rows place first some = by_place (place == 0) refl
         (omega arith, tt)
 
 -- the middle among the rows that stay
-pub changed : (rows : List Row) (low high : ℕ) (r : Row) → IsProper rows → IsPlace rows r.0 low → IsPlace rows (r.1 + 1 + 1) high → r.0 ≤ r.1 → r.1 ≤ max_code_point →
+pub changed : (rows : List Row) (low high : ℕ) (r : Row) → IsProper rows → IsPlace rows r.0 low → IsPlace rows (r.1 + 1 + 1) high →
+    r.0 ≤ r.1 → r.1 ≤ max_code_point →
     IsChange r rows (take (low - 1) rows ++ (middle rows low high r ++ drop high rows))
 changed rows low high r proper at_low at_high order top =
     let mid = range r order top in
@@ -216,7 +219,8 @@ changed rows low high r proper at_low at_high order top =
     let same : join (join (take (low - 1) rows ++ left_part rows low r.0) (range_row r)) (right_part rows high r.1 ++ drop high rows)
     ≡ take (low - 1) rows ++ (middle rows low high r ++ drop high rows) =
     split_front (take (low - 1) rows) (left_part rows low r.0) (range_row r) (right_part rows high r.1 ++ drop high rows) few
-    ∙ ap (λ t. take (low - 1) rows ++ t) (split_back (r.1 + 1) (join (left_part rows low r.0) (range_row r)) (right_part rows high r.1) (drop high rows) ends at_high.after) in
+    ∙ ap (λ t. take (low - 1) rows ++ t)
+    (split_back (r.1 + 1) (join (left_part rows low r.0) (range_row r)) (right_part rows high r.1) (drop high rows) ends at_high.after) in
     rw (← same) (whole r rows _ (range_row r) _ (front rows proper r.0 low at_low) mid (back rows proper r.1 high at_high) order)
 
 -- the same where it may fail

@@ -86,7 +86,15 @@ module _ (c : ℕ) where
         rw (← same) right.1,
         right.2,
       ))
-      (λ apart. (left.0, (omega (arith, ends.0, from), λ same. let other : y.0 ≡ x.1 + 1 → ⊥ = λ at. apart at (sym same) in omega (arith, ends.0, from, other)), right))
+      (λ apart. (
+        left.0,
+        (
+          omega (arith, ends.0, from),
+          λ same.
+              let other : y.0 ≡ x.1 + 1 → ⊥ = λ at. apart at (sym same) in omega (arith, ends.0, from, other),
+        ),
+        right,
+      ))
   join_proper (x ∷ w ∷ xs) ys left right ends from =
       (left.0, join_follows (x.1 + 1) x.2 w xs ys left.1, join_proper (w ∷ xs) ys left.2 right ends.1 from)
 

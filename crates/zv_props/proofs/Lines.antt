@@ -29,7 +29,8 @@ set_by_numbers ws = grind arith
 -- ---- digits
 
 pub number_step : (most n i : ℕ) (digits : List ℕ) → i < length digits → let d : ℕ = get_or digits i 0 in
-    number_on most n (drop i digits) ≡ (if is_ascii_digit d && nat_le (10 * n + (d - 48)) most then number_on most (10 * n + (d - 48)) (drop (i + 1) digits) else None)
+    number_on most n (drop i digits)
+    ≡ (if is_ascii_digit d && nat_le (10 * n + (d - 48)) most then number_on most (10 * n + (d - 48)) (drop (i + 1) digits) else None)
 number_step most n i digits lt = rw (add-one, drop-cons digits i 0 lt) refl
 
 pub number_end : (most n i : ℕ) (digits : List ℕ) → length digits ≤ i → number_on most n (drop i digits) ≡ Some n

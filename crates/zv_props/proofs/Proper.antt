@@ -1,5 +1,6 @@
 -- Proper tables and the test of rows.
-use Rattle.zv_props.proofs.Common.{◌≡◌, ℕ, ◌+◌, ◌<◌, ◌≤◌, List, [], ◌∷◌, drop, Some, None, refl, arith, nat_tests, slice_get, slice_get_within, get_or_from_slice_get, drop-cons}
+use Rattle.zv_props.proofs.Common.{◌≡◌, ℕ, ◌+◌, ◌<◌, ◌≤◌, List, [], ◌∷◌, drop, Some, None, refl, arith, nat_tests}
+use Rattle.zv_props.proofs.Common.{slice_get, slice_get_within, get_or_from_slice_get, drop-cons}
 use Rattle.zv_props.proofs.Common.{IsProper, IsRow, MayFollow, Row, ◌∙◌, ap, Option}
 use Rattle.std.proofs.Common.{add-one}
 use Rattle.zv_props.specs.Faults.{rows_fault, row_fault, or_fault}

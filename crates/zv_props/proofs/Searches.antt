@@ -112,10 +112,12 @@ module _ (bytes : List ℕ) (c n : ℕ) (proper : IsProper (rows_of bytes)) (lt 
       let all : n - 0 ≡ n = omega arith in
       rw (all, answers (chunks_of 10 bytes) c lt) (take_all n _ few)
 
-  pub ok_place : (i : ℕ) → FoundIn (compared (on (from_le_bytes w32) nat_cmp) (map (take 4) (chunks_of 10 bytes)) (to_le_bytes w32 c)) (record { start = 0; end = n })
+  pub ok_place : (i : ℕ) →
+      FoundIn (compared (on (from_le_bytes w32) nat_cmp) (map (take 4) (chunks_of 10 bytes)) (to_le_bytes w32 c)) (record { start = 0; end = n })
       (Ok i) → IsPlace (rows_of bytes) (c + 1) (i + 1)
   ok_place i found = hit_place (rows_of bytes) c proper i (rw whole at found)
 
-  pub err_place : (i : ℕ) → FoundIn (compared (on (from_le_bytes w32) nat_cmp) (map (take 4) (chunks_of 10 bytes)) (to_le_bytes w32 c)) (record { start = 0; end = n })
+  pub err_place : (i : ℕ) →
+      FoundIn (compared (on (from_le_bytes w32) nat_cmp) (map (take 4) (chunks_of 10 bytes)) (to_le_bytes w32 c)) (record { start = 0; end = n })
       (Err i) → IsPlace (rows_of bytes) (c + 1) i
   err_place i found = gap_place (rows_of bytes) c proper i ((rw whole at found).1 (rises (rows_of bytes) c proper))

@@ -9,5 +9,6 @@ good : (r : Row) → is_bad r ≡ false → (r.0 ≤ r.1) × (r.1 ≤ max_code_p
 good r h = grind (arith, nat_tests)
 
 -- where none is bad, each has a code point and ends in time
-pub all_good : (rows : List Row) (i : ℕ) → position is_bad rows ≡ None → i < length rows → ((row_at rows i).0 ≤ (row_at rows i).1) × ((row_at rows i).1 ≤ max_code_point)
+pub all_good : (rows : List Row) (i : ℕ) → position is_bad rows ≡ None → i < length rows →
+    ((row_at rows i).0 ≤ (row_at rows i).1) × ((row_at rows i).1 ≤ max_code_point)
 all_good rows i none lt = good (row_at rows i) (fails_before_first is_bad rows i (0, 0, 0) (grind (arith, nat_tests)))

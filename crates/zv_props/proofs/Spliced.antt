@@ -1,5 +1,6 @@
 -- Rows put in place of others, by their bytes.
-use Rattle.zv_props.proofs.Common.{◌≡◌, ℕ, zero, suc, ◌+◌, ◌*◌, ◌≤◌, List, [], ◌∷◌, ◌++◌, length, take, drop, None, refl, sym, ◌∙◌, ap, arith, Row, row, rows_of}
+use Rattle.zv_props.proofs.Common.{◌≡◌, ℕ, zero, suc, ◌+◌, ◌*◌, ◌≤◌, List, [], ◌∷◌, ◌++◌, length, take, drop, None, refl}
+use Rattle.zv_props.proofs.Common.{sym, ◌∙◌, ap, arith, Row, row, rows_of}
 use Rattle.std.proofs.Math.Nat.{suc-mul}
 use Rattle.std.proofs.Math.Seq.{take-append-add, drop-append-add}
 use Rattle.std.proofs.Common.{◌/◌}
@@ -38,7 +39,8 @@ front_bytes zero rows le = refl
 front_bytes (suc n) [] le = absurd (omega arith)
 front_bytes (suc n) (r ∷ rows) le =
     let next : suc n * 10 ≡ length (chunk r) + n * 10 = omega (arith, suc-mul n 10) in
-    ap (λ k. take k (chunk r ++ table_bytes rows)) next ∙ take-append-add (chunk r) (table_bytes rows) (n * 10) ∙ ap (λ b. chunk r ++ b) (front_bytes n rows (omega arith))
+    ap (λ k. take k (chunk r ++ table_bytes rows)) next ∙ take-append-add (chunk r) (table_bytes rows) (n * 10)
+    ∙ ap (λ b. chunk r ++ b) (front_bytes n rows (omega arith))
 
 back_bytes : (n : ℕ) (rows : List Row) → n ≤ length rows → drop (n * 10) (table_bytes rows) ≡ table_bytes (drop n rows)
 back_bytes zero rows le = refl
@@ -69,11 +71,13 @@ place_within n bytes le =
 
 -- ---- rows in place of those from one place up to another
 
-module _ (rows mid : List Row) (from to : ℕ) (order : from ≤ to) (within : to ≤ length rows) (stored : AllByRecursion IsStored rows) (new : AllByRecursion IsStored mid) where
+module _ (rows mid : List Row) (from to : ℕ) (order : from ≤ to) (within : to ≤ length rows)
+    (stored : AllByRecursion IsStored rows) (new : AllByRecursion IsStored mid) where
   spliced : splice (table_bytes rows) (from * 10) (to * 10) (table_bytes mid) ≡ table_bytes (take from rows ++ (mid ++ drop to rows))
   spliced =
       rw (front_bytes from rows (omega arith), back_bytes to rows within)
-      (sym (flat_map-append chunk (take from rows) (mid ++ drop to rows) ∙ ap (λ b. table_bytes (take from rows) ++ b) (flat_map-append chunk mid (drop to rows))))
+      (sym (flat_map-append chunk (take from rows) (mid ++ drop to rows)
+      ∙ ap (λ b. table_bytes (take from rows) ++ b) (flat_map-append chunk mid (drop to rows))))
 
   all_stored : AllByRecursion IsStored (take from rows ++ (mid ++ drop to rows))
   all_stored = all_joined IsStored _ _ (all_front IsStored from rows stored) (all_joined IsStored _ _ new (all_back IsStored to rows stored))
@@ -83,7 +87,8 @@ module _ (rows mid : List Row) (from to : ℕ) (order : from ≤ to) (within : t
   spliced_rows bytes is = (ap list_fault (is ∙ spliced) ∙ no_fault _ all_stored, ap rows_of (is ∙ spliced) ∙ read_back _ all_stored)
 
 -- an edit of bytes that may fail
-pub edited : {T E : Type 0} (r : Result T E) (old new : List ℕ) (mid : List Row) (start end : ℕ) → start ≤ end → end ≤ length (rows_of old) → list_fault old ≡ None →
+pub edited : {T E : Type 0} (r : Result T E) (old new : List ℕ) (mid : List Row) (start end : ℕ) → start ≤ end →
+    end ≤ length (rows_of old) → list_fault old ≡ None →
     table_bytes (rows_of old) ≡ old → AllByRecursion IsStored (rows_of old) → AllByRecursion IsStored mid →
     OnOk r (new ≡ splice old (start * 10) (end * 10) (table_bytes mid)) → OnErr r (new ≡ old) →
     OnOk r (rows_of new ≡ take start (rows_of old) ++ (mid ++ drop end (rows_of old))) × (list_fault new ≡ None)

@@ -23,10 +23,15 @@ none_above c (r ∷ rows) proper above = outside r rows c (λ first last. omega 
 same_row : (x y : Row) → x.0 ≡ y.0 → x.1 ≡ y.1 → x.2 ≡ y.2 → x ≡ y
 same_row (a, b, c) (d, e, f) first last value = cc
 
-module _ (x y : Row) (xs ys : List Row) (left : IsProper (x ∷ xs)) (right : IsProper (y ∷ ys)) (same : (c : ℕ) → value_at (x ∷ xs) c ≡ value_at (y ∷ ys) c) where
+module _ (x y : Row) (xs ys : List Row) (left : IsProper (x ∷ xs)) (right : IsProper (y ∷ ys))
+    (same : (c : ℕ) → value_at (x ∷ xs) c ≡ value_at (y ∷ ys) c) where
   first : y.0 ≤ x.0
   first = elim (cases_lt x.0 y.0) [
-    | inl below ↦ absurd (omega (arith, left.0.some, sym (inside x xs x.0 (omega arith) left.0.order) ∙ (same x.0 ∙ none_below x.0 y.0 (y ∷ ys) below right (omega arith))))
+    | inl below ↦ absurd (omega (
+      arith,
+      left.0.some,
+      sym (inside x xs x.0 (omega arith) left.0.order) ∙ (same x.0 ∙ none_below x.0 y.0 (y ∷ ys) below right (omega arith)),
+    ))
     | inr from ↦ from
   ]
 

@@ -30,7 +30,8 @@ rows_of bytes = values_of 10 row bytes
 
 -- the error of bytes that are no rows: their number is no multiple of ten
 abbrev pub list_fault : List ℕ → Option UleError
-list_fault bytes = chunks_fault Tuple3 10 (pair_fault 4 (λ _. None) (pair_fault 4 (λ _. None) (λ _. None))) bytes
+list_fault bytes =
+    chunks_fault Tuple3 10 (pair_fault 4 (λ _. None) (pair_fault 4 (λ _. None) (λ _. None))) bytes
 
 -- a row fits into its bytes
 abbrev pub IsStored : Row → Type 0

@@ -1,5 +1,6 @@
 // Tables from ranges.
-ghost use Rattle.std.specs.Prelude.{◌≡◌, ℕ, ◌↔◌, None, Some, IfOk, OnOk, IsErrOf, position, reverse};
+ghost use Rattle.std.specs.Prelude.{◌≡◌, ℕ, ◌↔◌, None, Some, IfOk, OnOk, IsErrOf, position};
+ghost use Rattle.std.specs.Prelude.{reverse};
 ghost use Rattle.zv_props.specs.Sets.{is_bad};
 ghost use Rattle.zv_props.specs.Tables.{AnswerAlike, IsProper};
 ghost use Rattle.zv_props.specs.declared.error.BuildError.{BuildError};
@@ -29,11 +30,12 @@ fn build_good(alloc: Global, sets: &[(u32, u32, u16)]) -> Result<Props<'static>,
 }
 
 impl Props<'_> {
-    /// The table that ranges with their values leave, set one after another: each code point has the
-    /// value of the last range that has it.
+    /// The table that ranges with their values leave, set one after another: each code point has
+    /// the value of the last range that has it.
     ///
     /// # Errors
-    /// `BadSet` names the first range that has no code point or ends above 1,114,111. Else `Memory`.
+    /// `BadSet` names the first range that has no code point or ends above 1,114,111. Else
+    /// `Memory`.
     ///
     /// # Cost
     /// That of the sets. Ranges that ascend move no bytes.

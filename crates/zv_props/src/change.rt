@@ -1,5 +1,6 @@
 // Changes of a table.
-ghost use Rattle.std.specs.Prelude.{◌≡◌, ◌+◌, ◌*◌, ◌<◌, ◌≤◌, ◌∷◌, ◌++◌, length, take, drop, None, OnOk, OnErr};
+ghost use Rattle.std.specs.Prelude.{◌≡◌, ◌+◌, ◌*◌, ◌<◌, ◌≤◌, ◌∷◌, ◌++◌, length, take, drop};
+ghost use Rattle.std.specs.Prelude.{None, OnOk, OnErr};
 ghost use Rattle.zv_props.specs.Changes.{left_part, middle, range_row, right_part};
 ghost use Rattle.zv_props.specs.Contents.{bytes_in};
 ghost use Rattle.zv_props.specs.Joining.{join};
@@ -107,7 +108,8 @@ fn put_rows(
     requires spells { list_fault (bytes_in bytes.old) ≡ None }
     requires order { start ≤ end }
     requires place { end ≤ length (rows_of (bytes_in bytes.old)) }
-    ensures ok { OnOk result (rows_of (bytes_in bytes.new) ≡ take start (rows_of (bytes_in bytes.old))
+    ensures ok { OnOk result (rows_of (bytes_in bytes.new)
+        ≡ take start (rows_of (bytes_in bytes.old))
         ++ (few.now ++ drop end (rows_of (bytes_in bytes.old)))) }
     ensures spells { list_fault (bytes_in bytes.new) ≡ None }
     ensures err { OnErr result (bytes_in bytes.new ≡ bytes_in bytes.old) }

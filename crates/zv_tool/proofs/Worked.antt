@@ -17,7 +17,8 @@ forms : map form_of (
 unfolding decode_pairs is_utf8 chars lib.Utf8.encode
 forms = refl
 
-names : map names_form ((codes "edit" ∷ codes "more" ∷ []) ∷ (codes "look" ∷ []) ∷ (codes "props" ∷ codes "x" ∷ []) ∷ (codes "make" ∷ []) ∷ [] ∷ []) ≡ true ∷ true ∷ true ∷ false ∷ false ∷ []
+names : map names_form ((codes "edit" ∷ codes "more" ∷ []) ∷ (codes "look" ∷ []) ∷ (codes "props" ∷ codes "x" ∷ []) ∷ (codes "make" ∷ []) ∷ [] ∷ [])
+    ≡ true ∷ true ∷ true ∷ false ∷ false ∷ []
 names = refl
 
 reads : map is_read ((codes "edit" ∷ []) ∷ (codes "props" ∷ []) ∷ (codes "look" ∷ []) ∷ [] ∷ []) ≡ true ∷ true ∷ false ∷ false ∷ []

@@ -30,10 +30,10 @@ fn run_form<S: Source, K: Sink>(alloc: Global, form: Form, source: &mut S, sink:
 /// All that the program does: reads the source to its end, answers to the sink, and says how it
 /// ended.
 ///
-/// The command forms are `edit`, `look F F` and `props`. Line 1 of the input is `x` and the bytes of
-/// an image, or of a table for `props`, in hex. For `look` it is the only line, and the answer is
-/// `some xV` or `none`, for the pair of keys that the fields are. For `edit` each further line is a
-/// command, which runs on the map that those before it left:
+/// The command forms are `edit`, `look F F` and `props`. Line 1 of the input is `x` and the bytes
+/// of an image, or of a table for `props`, in hex. For `look` it is the only line, and the answer
+/// is `some xV` or `none`, for the pair of keys that the fields are. For `edit` each further line
+/// is a command, which runs on the map that those before it left:
 ///
 /// - `get K K` looks up a pair of keys, and is answered `some xV`, or `none`;
 /// - `put K K F` gives a pair a value, and is answered `new`, `old xV` with the value that the pair
@@ -55,8 +55,8 @@ fn run_form<S: Source, K: Sink>(alloc: Global, form: Form, source: &mut S, sink:
 /// UTF-8, and so are the fields of `look`. One space stands between words. Lines end in LF, which
 /// may be missing after the last. All lines are checked before the image. The answer of `edit` ends
 /// with `image xI`, the canonical image of the map that is left; its hex is in lower case. A
-/// refusal is one line, `error line N`, or `error` and the word of the image's first fault, or of the
-/// table's, `length`, or `row I`, `order I` or `join I` with the row's place from 0.
+/// refusal is one line, `error line N`, or `error` and the word of the image's first fault, or of
+/// the table's, `length`, or `row I`, `order I` or `join I` with the row's place from 0.
 #[tactic(auto, using(crate::proofs::Runs::memory_unless))]
 pub fn run<S: Source, K: Sink>(alloc: Global, words: &Words, source: &mut S, sink: &mut K) -> Status
     // Where a text is due, it is the one that the words and the whole input want.
