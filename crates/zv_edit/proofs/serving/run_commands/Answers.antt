@@ -15,7 +15,7 @@ pub returns-in_err-run_command-clause-text : goal.returns-in_err-run_command-cla
 returns-in_err-run_command-clause-text g c =
     let l = c.loop-command in
     let is = ahead c.as_slice-command-items.result.now l.command-index c.command-item.result c.loop-command-test.true c.command-item.is in
-    sends_as (ap (reply_lines c.args.map.now.rows) (sym c.as_slice-command-items.ensures))
+    sends_as (ap (reply_lines c.args.map.now.rows) (sym c.as_slice-command-items.ensures.commands))
     (completes_cut _ l.invariant.text (ap (reply_lines l.map.rows) is) c.run_command.ensures.text (search rules) (search rules))
 
 pub loop-command-preserved : goal.loop-command-preserved
@@ -39,10 +39,11 @@ pub returns-clause-text : goal.returns-clause-text
 returns-clause-text g c =
     let l = c.loop-command in
     let none = drop_all l.command-index c.as_slice-command-items.result.now (omega arith) in
-    sends_as (ap (reply_lines c.args.map.now.rows) (sym c.as_slice-command-items.ensures))
+    sends_as (ap (reply_lines c.args.map.now.rows) (sym c.as_slice-command-items.ensures.commands))
     (completes_last l.invariant.text (ap (reply_lines l.map.rows) none) c.send.ensures.text)
 
 pub returns-clause-failed : goal.returns-clause-failed
 returns-clause-failed g c =
     let l = c.loop-command in
-    at_err c.send.result (l.command-index, l.invariant.ran ∙ ap (λ x. last c.args.map.now.rows (take l.command-index x)) c.as_slice-command-items.ensures)
+    at_err c.send.result
+    (l.command-index, l.invariant.ran ∙ ap (λ x. last c.args.map.now.rows (take l.command-index x)) c.as_slice-command-items.ensures.commands)
