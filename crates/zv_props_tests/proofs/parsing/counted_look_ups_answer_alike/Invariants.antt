@@ -1,4 +1,4 @@
 use Rattle.zv_props_tests.proofs.parsing.counted_look_ups_answer_alike.Given as goal
 
 abbrev pub ghosts-counted : goal.ghosts-counted
-ghosts-counted a = record { name = a.blank.name; parts = a.blank.parts }
+ghosts-counted g a = record { name = a.blank.name; parts = a.blank.parts }
