@@ -1,15 +1,11 @@
 // How often look-ups in a map of 28 locales compare, counted by the keys themselves.
-ghost use Rattle.std.specs.Prelude.{◌≡◌, ◌<◌};
-
 use std::cell::Cell;
-use std::marker::Brand;
 use std::process::Abort;
-use std::sync::ledger::{Blank, Ledger};
 use std::test::Fail;
 use zv_counting::CountingKey;
 use zv_map::{MutableZeroVecLike, ZeroMapKV, ZvContainer};
 use zv_map2d::Map2dOver;
-use zv_ule::{SliceULE, Steps, StrULE};
+use zv_ule::{SliceULE, StrULE};
 
 const KEYS0: &[u8] = b"\
     \x15\x00\x03\x00\x05\x00\x07\x00\x09\x00\x0b\x00\x0e\x00\x10\x00\x12\x00\x14\x00\x17\
@@ -114,35 +110,6 @@ where
     }
 }
 
-// How many comparisons the counted look-ups make.
-fn counted_from<C0, C1, D, L: Ledger>(
-    map: &Locales<'_, C0, C1, D>,
-    language: &str,
-    script: &str,
-    blank: Blank,
-) -> Comparisons
-where
-    C0: ZvContainer<StrULE>,
-    C1: ZvContainer<StrULE>,
-    D: ZvContainer<SliceULE<u8>>,
-    requires name { blank.name ≡ L.name }
-    requires parts { blank.parts ≡ L.parts }
-    requires some { 0 < blank.parts }
-{
-    let mut steps = Steps::<L>::start(blank);
-    let (in_map, of_row, in_row) = (Cell::new(0), Cell::new(0), Cell::new(0));
-    let key0 = CountingKey::new(language, &in_map);
-    let _ = map.get_2d_counted(&key0, &CountingKey::new(script, &in_map), &mut steps);
-    if let Some(row) = map.get0_counted(&CountingKey::new(language, &of_row), &mut steps) {
-        let _ = row.get1_counted(&CountingKey::new(script, &in_row), &mut steps);
-    }
-    Comparisons {
-        in_map: in_map.get(),
-        of_row: of_row.get(),
-        in_row: in_row.get(),
-    }
-}
-
 // Look-ups compare at most as often as the numbers of rows, 21, and of the row's pairs have digits.
 fn are_few(rt: &impl Abort, found: Comparisons, scripts: usize) {
     let most = digits(scripts);
@@ -164,8 +131,6 @@ where
 {
     for (language, script, scripts) in pairs {
         are_few(rt, plain(map, language, script), *scripts);
-        let count = counted_from::<C0, C1, D, Brand>(map, language, script, Blank::new(1));
-        are_few(rt, count, *scripts);
     }
 }
 
