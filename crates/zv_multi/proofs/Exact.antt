@@ -13,6 +13,7 @@ use Rattle.zv_ule.proofs.Lists.{back_bytes, front_bytes}
 use Rattle.zv_ule.specs.Bytes.{IsBytes, le}
 use Rattle.zv_ule.specs.Kinds.{EqualIsSame}
 use Rattle.zv_ule.specs.declared.error.UleError.{UleError}
+use Rattle.zv_var.proofs.Exact.{parted}
 use Rattle.zv_var.specs.Format.{elements_after, starts}
 use Rattle.zv_var.specs.Serialize.{lengthless}
 use Rattle.zv_multi.specs.Laws.{AreExact}
@@ -20,11 +21,6 @@ use Rattle.zv_multi.specs.Options.{option_fault, option_of}
 use Rattle.zv_multi.specs.Records.{field_at, fields_fault, fields_order, record_fault}
 use Rattle.zv_multi.specs.VarTuples.{var_tuple_fault}
 use Rattle.zv_multi.proofs.Reading.{neither, record_from_none}
-
-parted : (x y : List ℕ) → IsBytes (x ++ y) → IsBytes x × IsBytes y
-parted x y h =
-    let inside : length x ≤ length (x ++ y) = omega (arith, length-append x y) in
-    (rw (take_at x y (length x) refl) at (front_bytes (length x) (x ++ y) h inside), rw (drop_at x y (length x) refl) at (back_bytes (length x) (x ++ y) h))
 
 field_bytes : (xs : List (List ℕ)) → IsBytes (concat xs) → (i : ℕ) → IsBytes (field_at xs i)
 field_bytes [] h i = h
