@@ -1,7 +1,7 @@
 -- Composed elements that compare Equal have parts that do.
-use Rattle.std.proofs.Common.{◌≡◌, ℕ, zero, suc, ◌+◌, ◌<◌, ◌≤◌, List, [], ◌∷◌, ◌++◌, length, take, drop, get_or, Option, None, Some, refl, ap, ◌∙◌, sym, arith}
-use Rattle.std.proofs.Common.{length-append, inl, inr}
-use Rattle.std.proofs.lemmas.List.{drop_all, drop_at, drop_more, take-append-drop, take_at}
+use Rattle.std.proofs.Common.{◌≡◌, ℕ, zero, suc, ◌+◌, ◌<◌, ◌≤◌, List, [], ◌∷◌, ◌++◌, length, take, drop, Option, None, refl, ap, ◌∙◌, sym, arith}
+use Rattle.std.proofs.Common.{inl, inr}
+use Rattle.std.proofs.lemmas.List.{drop_all, drop_more, take-append-drop}
 use Rattle.std.specs.List.{concat, flat_map}
 use Rattle.std.specs.Option.{option_cmp, option_or}
 use Rattle.std.specs.Ordering.{ordering_then}
@@ -13,6 +13,7 @@ use Rattle.zv_ule.proofs.Lists.{back_bytes, front_bytes}
 use Rattle.zv_ule.specs.Bytes.{IsBytes, le}
 use Rattle.zv_ule.specs.Kinds.{EqualIsSame}
 use Rattle.zv_ule.specs.declared.error.UleError.{UleError}
+use Rattle.zv_var.proofs.Exact.{parted}
 use Rattle.zv_var.specs.Format.{elements_after, starts}
 use Rattle.zv_var.specs.Serialize.{lengthless}
 use Rattle.zv_multi.specs.Laws.{AreExact}
@@ -20,11 +21,6 @@ use Rattle.zv_multi.specs.Options.{option_fault, option_of}
 use Rattle.zv_multi.specs.Records.{field_at, fields_fault, fields_order, record_fault}
 use Rattle.zv_multi.specs.VarTuples.{var_tuple_fault}
 use Rattle.zv_multi.proofs.Reading.{neither, record_from_none}
-
-parted : (x y : List ℕ) → IsBytes (x ++ y) → IsBytes x × IsBytes y
-parted x y h =
-    let inside : length x ≤ length (x ++ y) = omega (arith, length-append x y) in
-    (rw (take_at x y (length x) refl) at (front_bytes (length x) (x ++ y) h inside), rw (drop_at x y (length x) refl) at (back_bytes (length x) (x ++ y) h))
 
 field_bytes : (xs : List (List ℕ)) → IsBytes (concat xs) → (i : ℕ) → IsBytes (field_at xs i)
 field_bytes [] h i = h

@@ -13,7 +13,7 @@ use Rattle.zv_ule.specs.Bytes.{IsBytes}
 use Rattle.zv_ule.specs.Kinds.{EqualIsSame}
 use Rattle.zv_var.proofs.Read.{Part_from_fault, valid_from_fault}
 
-parted : (x y : List ℕ) → IsBytes (x ++ y) → IsBytes x × IsBytes y
+pub parted : (x y : List ℕ) → IsBytes (x ++ y) → IsBytes x × IsBytes y
 parted x y h =
     let inside : length x ≤ length (x ++ y) = omega (arith, length-append x y) in
     (rw (take_at x y (length x) refl) at (front_bytes (length x) (x ++ y) h inside), rw (drop_at x y (length x) refl) at (back_bytes (length x) (x ++ y) h))
