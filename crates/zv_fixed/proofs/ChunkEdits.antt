@@ -22,17 +22,17 @@ use Rattle.zv_fixed.specs.declared.cow_bytes.CowBytes.{CowBytes}
 use Rattle.zv_fixed.specs.CowBytes.{bytes_in, IsUnchanged}
 
 -- the bytes are these chunks, each of width w and without a fault
-data AreChunks (w : ℕ) (f : List ℕ → Option UleError) : List ℕ → List (List ℕ) → Type 0 where
+pub data AreChunks (w : ℕ) (f : List ℕ → Option UleError) : List ℕ → List (List ℕ) → Type 0 where
   none : AreChunks w f [] []
   more : {c b : List ℕ} {cs : List (List ℕ)} → length c ≡ w → f c ≡ None → AreChunks w f b cs → AreChunks w f (c ++ b) (c ∷ cs)
 
 module _ {w : ℕ} {f : List ℕ → Option UleError} where
-  joined : {a b : List ℕ} {cs ds : List (List ℕ)} → AreChunks w f a cs → AreChunks w f b ds → AreChunks w f (a ++ b) (cs ++ ds)
+  pub joined : {a b : List ℕ} {cs ds : List (List ℕ)} → AreChunks w f a cs → AreChunks w f b ds → AreChunks w f (a ++ b) (cs ++ ds)
   joined none q = q
   joined (more long good p) q = rw append_assoc (more long good (joined p q))
 
   -- the first i chunks, and the others
-  parted : (i : ℕ) {b : List ℕ} {cs : List (List ℕ)} → AreChunks w f b cs → i ≤ length cs →
+  pub parted : (i : ℕ) {b : List ℕ} {cs : List (List ℕ)} → AreChunks w f b cs → i ≤ length cs →
       AreChunks w f (take (i * w) b) (take i cs) × AreChunks w f (drop (i * w) b) (drop i cs)
   parted zero p le = let start : 0 * w ≡ 0 = omega arith in rw start (none, p)
   parted (suc i) none le = absurd (omega arith)
@@ -59,17 +59,17 @@ module _ {w : ℕ} {f : List ℕ → Option UleError} where
       (more (length-take-le w b le) both.0 (read_chunks n (drop w b) (omega (arith, length-drop w b, suc-mul n w)) both.1))
 
   -- bytes without a fault are their chunks
-  are_chunks : (ty : TyName) (b : List ℕ) → chunks_fault ty w f b ≡ None → AreChunks w f b (chunks_of w b)
+  pub are_chunks : (ty : TyName) (b : List ℕ) → chunks_fault ty w f b ≡ None → AreChunks w f b (chunks_of w b)
   are_chunks ty b good = let whole = whole_if ty w f b good in read_chunks (length b / w) b (omega (arith, div-add-mod' (length b) w)) whole.1
 
   -- and the other way round
-  they_are : {b : List ℕ} {cs : List (List ℕ)} → IsTrue (is_width w) → AreChunks w f b cs → chunks_of w b ≡ cs
+  pub they_are : {b : List ℕ} {cs : List (List ℕ)} → IsTrue (is_width w) → AreChunks w f b cs → chunks_of w b ≡ cs
   they_are {b} {cs} usable p =
       let all = counted p in
       let long : length b ≡ length cs * w + 0 = omega arith in
       ap (λ n. chunks w (n / w) b) long ∙ rw (div-mul-add (length cs) w 0 (width_pos w usable)) all.1
 
-  no_fault : (ty : TyName) {b : List ℕ} {cs : List (List ℕ)} → IsTrue (is_width w) → AreChunks w f b cs → chunks_fault ty w f b ≡ None
+  pub no_fault : (ty : TyName) {b : List ℕ} {cs : List (List ℕ)} → IsTrue (is_width w) → AreChunks w f b cs → chunks_fault ty w f b ≡ None
   no_fault ty {b} {cs} usable p =
       let long : length b ≡ length cs * w + 0 = omega (arith, (counted p).0) in
       whole_fault ty w f b (rw long (mod-mul-add (length cs) w 0 (width_pos w usable))) ∙ rw (they_are usable p) (counted p).2
@@ -116,7 +116,7 @@ good_after : {T E : Type 0} (r : Result T E) (w : ℕ) (ty : TyName) (f : List �
 good_after (Ok x) w ty f held new cs usable good err are = no_fault ty usable are
 good_after (Err e) w ty f held new cs usable good err are = ap (chunks_fault ty w f) err.bytes ∙ good
 
-map_splice : {X Y : Type 0} (f : X → Y) (xs : List X) (i j : ℕ) (ys : List X) → map f (splice xs i j ys) ≡ splice (map f xs) i j (map f ys)
+pub map_splice : {X Y : Type 0} (f : X → Y) (xs : List X) (i j : ℕ) (ys : List X) → map f (splice xs i j ys) ≡ splice (map f xs) i j (map f ys)
 map_splice f xs i j ys = simp (map-append, take-map, drop-map)
 
 module _ {T E : Type 0} (r : Result T E) (w i a : ℕ) (held new : CowBytes) (old : List ℕ) (ty : TyName) (f : List ℕ → Option UleError)

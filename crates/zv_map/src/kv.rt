@@ -4,8 +4,11 @@ use crate::vecs::ZeroMapKV;
 use std::num::{NonZeroI8, NonZeroU8};
 use zv_fixed::slice::ZeroSliceULE;
 use zv_fixed::vector::ZeroVec;
+use zv_multi::{FieldKinds, MultiFieldsULE, OptionVarULE, RecordULE, VarTupleULE};
 use zv_owned::vector::VarZeroVec;
-use zv_ule::{AsULE, Index16, NicheBytes, NichedOption, SliceULE, StrULE, ULE};
+use zv_ule::{
+    AsULE, Index16, NicheBytes, NichedOption, SliceULE, StrULE, ULE, VarULE, VarZeroVecFormat,
+};
 
 impl<'a> ZeroMapKV<'a> for u8 {
     type Container = ZeroVec<'a, u8>;
@@ -121,4 +124,21 @@ impl<'a, U: ULE> ZeroMapKV<'a> for SliceULE<U> {
 
 impl<'a, T: AsULE> ZeroMapKV<'a> for ZeroSliceULE<T> {
     type Container = VarZeroVec<'a, ZeroSliceULE<T>, Index16>;
+}
+
+impl<'a, const LEN: usize, F: VarZeroVecFormat> ZeroMapKV<'a> for MultiFieldsULE<LEN, F> {
+    type Container = VarZeroVec<'a, MultiFieldsULE<LEN, F>, Index16>;
+}
+
+impl<'a, const LEN: usize, K: FieldKinds, F: VarZeroVecFormat> ZeroMapKV<'a>
+    for RecordULE<LEN, K, F> {
+    type Container = VarZeroVec<'a, RecordULE<LEN, K, F>, Index16>;
+}
+
+impl<'a, A: AsULE, V: VarULE> ZeroMapKV<'a> for VarTupleULE<A, V> {
+    type Container = VarZeroVec<'a, VarTupleULE<A, V>, Index16>;
+}
+
+impl<'a, U: VarULE> ZeroMapKV<'a> for OptionVarULE<U> {
+    type Container = VarZeroVec<'a, OptionVarULE<U>, Index16>;
 }

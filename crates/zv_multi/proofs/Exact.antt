@@ -1,7 +1,7 @@
 -- Composed elements that compare Equal have parts that do.
-use Rattle.std.proofs.Common.{◌≡◌, ℕ, zero, suc, ◌+◌, ◌<◌, ◌≤◌, List, [], ◌∷◌, ◌++◌, length, take, drop, get_or, Option, None, Some, refl, ap, ◌∙◌, sym, arith}
-use Rattle.std.proofs.Common.{length-append, inl, inr}
-use Rattle.std.proofs.lemmas.List.{drop_all, drop_at, drop_more, take-append-drop, take_at}
+use Rattle.std.proofs.Common.{◌≡◌, ℕ, zero, suc, ◌+◌, ◌<◌, ◌≤◌, List, [], ◌∷◌, ◌++◌, length, take, drop, Option, None, refl, ap, ◌∙◌, sym, arith}
+use Rattle.std.proofs.Common.{inl, inr}
+use Rattle.std.proofs.lemmas.List.{drop_all, drop_more, take-append-drop}
 use Rattle.std.specs.List.{concat, flat_map}
 use Rattle.std.specs.Option.{option_cmp, option_or}
 use Rattle.std.specs.Ordering.{ordering_then}
