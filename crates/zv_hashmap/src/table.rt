@@ -1,6 +1,6 @@
 // Hash tables.
 ghost use Rattle.std.specs.Prelude.{◌≡◌, ℕ, ◌==◌, ◌+◌, ◌^◌, ◌<◌, ◌≤◌, ◌↔◌, length, zip, IsTrue};
-ghost use Rattle.std.specs.Prelude.{IfOk, IfSome, Some, is_some, option_map};
+ghost use Rattle.std.specs.Prelude.{IfOk, IfSome, Some, is_some, option_map, true};
 ghost use Rattle.std.specs.Result.{result_err};
 ghost use Rattle.zv_fixed.specs.Views.{bytes_of as displacement_bytes, values_in};
 ghost use Rattle.zv_map.specs.Iters.{elements_left, left_of};
@@ -111,6 +111,7 @@ impl<'a, K: HashBytes, V: ZvKind, C: ZvContainer<K>, D: ZvContainer<V>> HashMapO
     pub fn keys(&self) -> KvSlice<'_, K>
         ensures list { list_of result ≡ self.now.keys }
         ensures bytes { bytes_of result ≡ self.now.key_vector.bytes }
+        ensures fits { C.has_layout result.layout ≡ true }
     {
         self.keys.zvl_as_borrowed()
     }
@@ -120,6 +121,7 @@ impl<'a, K: HashBytes, V: ZvKind, C: ZvContainer<K>, D: ZvContainer<V>> HashMapO
     pub fn values(&self) -> KvSlice<'_, V>
         ensures list { list_of result ≡ self.now.values }
         ensures bytes { bytes_of result ≡ self.now.value_vector.bytes }
+        ensures fits { D.has_layout result.layout ≡ true }
     {
         self.values.zvl_as_borrowed()
     }

@@ -220,7 +220,7 @@ impl<'b, T: ZvKind> KvSlice<'b, T> {
     /// The bytes that the list is written as in the view's layout: all of them, but none where the
     /// list is empty.
     #[inline]
-    pub(crate) fn encoding(self) -> &'b [u8]
+    pub fn encoding(self) -> &'b [u8]
         ensures { result.now ≡ encoding_in self.entry.layout (list_of self.entry) }
     {
         if self.is_empty() {
