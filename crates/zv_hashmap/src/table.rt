@@ -102,6 +102,7 @@ impl<'a, K: HashBytes, V: ZvKind, C: ZvContainer<K>, D: ZvContainer<V>> HashMapO
     pub fn displacements(&self) -> ZeroSlice<'_, (u32, u32)>
         ensures values { values_in result ≡ self.now.displacements }
         ensures bytes { displacement_bytes result ≡ self.now.displacement_vector.bytes }
+        ensures count { length self.now.displacements ≡ length self.now.keys }
     {
         self.displacements.as_slice()
     }
@@ -111,6 +112,7 @@ impl<'a, K: HashBytes, V: ZvKind, C: ZvContainer<K>, D: ZvContainer<V>> HashMapO
     pub fn keys(&self) -> KvSlice<'_, K>
         ensures list { list_of result ≡ self.now.keys }
         ensures bytes { bytes_of result ≡ self.now.key_vector.bytes }
+        ensures few { length self.now.keys < 2 ^ 32 }
         ensures fits { C.has_layout result.layout ≡ true }
     {
         self.keys.zvl_as_borrowed()
@@ -121,6 +123,7 @@ impl<'a, K: HashBytes, V: ZvKind, C: ZvContainer<K>, D: ZvContainer<V>> HashMapO
     pub fn values(&self) -> KvSlice<'_, V>
         ensures list { list_of result ≡ self.now.values }
         ensures bytes { bytes_of result ≡ self.now.value_vector.bytes }
+        ensures count { length self.now.values ≡ length self.now.keys }
         ensures fits { D.has_layout result.layout ≡ true }
     {
         self.values.zvl_as_borrowed()

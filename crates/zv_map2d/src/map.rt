@@ -1,6 +1,7 @@
 // A map in two levels.
 ghost use Rattle.std.specs.Prelude.{◌≡◌, ◌==◌, [], length, IsTrue};
 ghost use Rattle.std.specs.List.{flat_map};
+ghost use Rattle.zv_fixed.specs.Views.{bytes_of as joiner_bytes, values_in};
 ghost use Rattle.zv_ule.specs.Bytes.{le};
 ghost use Rattle.zv_map.specs.Vectors.{vector_of};
 ghost use Rattle.zv_map2d.specs.Elements.{AreElements};
@@ -16,7 +17,7 @@ mod reads;
 mod room;
 
 use std::marker::{Model, PhantomData};
-use zv_fixed::ZeroVec;
+use zv_fixed::{ZeroSlice, ZeroVec};
 use zv_map::laws::elements_are_valid;
 use zv_map::{ZeroMapKV, ZvContainer};
 use zv_ule::{UsableKind, ZvKind, ZvOrd};
@@ -247,6 +248,16 @@ impl<
         ensures { result ≡ (length (seconds self.now.rows) == 0) }
     {
         self.len() == 0
+    }
+
+    /// Where each row ends among the second keys.
+    #[inline]
+    pub fn joiner(&self) -> ZeroSlice<'_, u32>
+        ensures values { values_in result ≡ ends self.now.rows }
+        ensures bytes { joiner_bytes result ≡ self.now.joiner.bytes }
+        ensures written { joiner_bytes result ≡ flat_map (le 4) (ends self.now.rows) }
+    {
+        self.joiner.as_slice()
     }
 
     /// The keys of a map are elements of their kinds, and ascend, and no row is empty. The call is
