@@ -1,7 +1,7 @@
 -- What a line's words say of its command: it is no larger than they are, and its keys are texts.
 use Rattle.zv_input.proofs.Common.{◌≡◌, ℕ, ◌+◌, ◌*◌, ◌≤◌, List, [], ◌∷◌, length, refl, arith, None, IfSome, onto_first, length-slice_split, sum_by-cons}
 use Rattle.zv_input.proofs.Common.{is_byte, decode_of-ok, Command, Get, Put, Del, Row, command_size, ◌>>=◌, words, field, key, command_of_words, OfTexts}
-use Rattle.zv_input.proofs.Common.{first_of, sum_by, get, del, row, first_keys, if_last, put}
+use Rattle.zv_input.proofs.Common.{first_of, slice_split, sum_by, get, del, row, first_keys, if_last, put}
 use Rattle.zv_ule.specs.Kinds.{text_fault}
 
 -- ---- fields
@@ -10,7 +10,7 @@ use Rattle.zv_ule.specs.Kinds.{text_fault}
 abbrev IsFieldOf : List ℕ → List ℕ → Type 0
 IsFieldOf word bytes = length word ≡ 1 + 2 * length bytes
 
-field_is : (word : List ℕ) → IfSome (field word) (IsFieldOf word)
+pub field_is : (word : List ℕ) → IfSome (field word) (IsFieldOf word)
 field_is [] = tt
 field_is (mark ∷ digits) = let of = decode_of-ok digits in grind arith
 
@@ -34,19 +34,20 @@ command_is (name ∷ a ∷ b ∷ []) = let k = key_is a in let l = key_is b in g
 command_is (name ∷ a ∷ b ∷ c ∷ []) = let k = key_is a in let l = key_is b in let v = field_is c in grind arith
 command_is (name ∷ a ∷ b ∷ c ∷ d ∷ rest) = grind arith
 
--- the words of a line are no longer than it
+-- the pieces of a text are no longer than it
 onto_first_size : (b : ℕ) (ws : List (List ℕ)) → sum_by length (onto_first b ws) ≡ 1 + sum_by length ws
 onto_first_size b [] = refl
 onto_first_size b (w ∷ ws) = omega (arith, sum_by-cons length (b ∷ w) ws, sum_by-cons length w ws)
 
-words_size : (line : List ℕ) → sum_by length (words line) ≤ length line
-words_size [] = omega arith
-words_size (b ∷ rest) =
-    let ih = words_size rest in let more = onto_first_size b (words rest) in grind (arith, sum_by-cons length [] (words rest))
+pub pieces_size : (byte : ℕ) (text : List ℕ) → sum_by length (slice_split (is_byte byte) text) ≤ length text
+pieces_size byte [] = omega arith
+pieces_size byte (b ∷ rest) =
+    let pieces = slice_split (is_byte byte) rest in
+    let ih = pieces_size byte rest in let more = onto_first_size b pieces in grind (arith, sum_by-cons length [] pieces)
 
 -- a line's command is no larger than it, and its keys are texts
 pub line_command : (line : List ℕ) → IfSome (command_of_words (words line)) (λ c. (command_size c ≤ length line) × OfTexts c)
-line_command line = let is = command_is (words line) in let size = words_size line in grind arith
+line_command line = let is = command_is (words line) in let size = pieces_size 32 line in grind arith
 
 -- ---- word by word
 

@@ -3,6 +3,7 @@ use Rattle.std.specs.Prelude.{◌≡◌, ℕ, ◌+◌, ◌-◌, List, Bool, true
 use Rattle.std.specs.Prelude.{if◌then◌else◌}
 use Rattle.zv_ule.specs.declared.kind.ZvKind.{Ghosts as KindGhosts}
 use Rattle.zv_owned.specs.Size.{size}
+use Rattle.zv_owned.specs.Widths.{wide}
 use Rattle.zv_owned.specs.Vectors.{vector_bytes, vector_list, vector_owned, vector_spare}
 use Rattle.zv_map.specs.Layouts.{encoding_in}
 use Rattle.zv_map.specs.declared.flex.FlexVec.{FlexVec}
@@ -51,6 +52,11 @@ module _ {T : Type 0} {kind : KindGhosts T} where
   -- its bytes are those that the list is written as in its form
   abbrev pub IsExact : FlexVec T kind → Type 0
   IsExact v = flex_bytes v ≡ encoding_in (flex_layout v) (flex_list v)
+
+-- the layout that a list needs: fields of four bytes exactly where those of two would make it
+-- longer than 65,535 bytes
+abbrev pub flex_settled : List (List ℕ) → Layout
+flex_settled xs = if wide xs then Index32 else Index16
 
 -- whether the layout has fields
 abbrev pub has_fields : Layout → Bool

@@ -86,6 +86,8 @@ impl<'a, T: AsULE> ZvContainer<T> for ZeroVec<'a, T> {
 
     ghost has_layout = { is_fixed T.ULE.width };
 
+    ghost settled = { λ _. Fixed T.ULE.width };
+
     ghost parse_fault = { chunks_fault T.ULE.TY T.ULE.width T.ULE.chunk_fault };
 
     ghost parse_list = { chunks_of T.ULE.width };
@@ -138,6 +140,14 @@ impl<'a, T: AsULE> ZvContainer<T> for ZeroVec<'a, T> {
     fn zvl_clear(&mut self) {
         self.remove_all();
     }
+
+    #[inline]
+    fn zvl_is_roomy(&self) -> bool {
+        self.is_owned()
+    }
+
+    #[inline]
+    fn zvl_settle(&mut self) {}
 
     #[inline]
     fn zvl_make_owned(&mut self, alloc: Global) -> Result<(), NoMemory> {

@@ -136,6 +136,8 @@ impl<'a, T: ZvKind, F: MapFormat> ZvContainer<T> for VarZeroVec<'a, T, F> {
 
     ghost has_layout = { λ layout. field_width layout == F.W };
 
+    ghost settled = { λ _. F.LAYOUT };
+
     ghost parse_fault = { λ bytes. slice_fault (list_fault F.W T.fault bytes) };
 
     ghost parse_list = { elements F.W };
@@ -186,6 +188,14 @@ impl<'a, T: ZvKind, F: MapFormat> ZvContainer<T> for VarZeroVec<'a, T, F> {
     fn zvl_clear(&mut self) {
         self.clear();
     }
+
+    #[inline]
+    fn zvl_is_roomy(&self) -> bool {
+        self.is_owned()
+    }
+
+    #[inline]
+    fn zvl_settle(&mut self) {}
 
     #[inline]
     fn zvl_make_owned(&mut self, alloc: Global) -> Result<(), NoMemory> {

@@ -98,6 +98,9 @@ pub trait ZvContainer<T: ZvKind>: ZeroVecLike<T> {
     /// Whether bytes in the layout can be the container's.
     ghost has_layout: { Layout → Bool };
 
+    /// The layout that a list is in once it is settled.
+    ghost settled: { List (List ℕ) → Layout };
+
     /// The error of bytes that spell no list, or nothing where they spell one.
     ghost parse_fault: { List ℕ → Option UleError };
 
@@ -172,6 +175,19 @@ pub trait ZvContainer<T: ZvKind>: ZeroVecLike<T> {
         ensures bytes { Self.bytes self.new ≡ [] }
         ensures owned { owned self.new ≡ owned self.old }
         ensures ready { ready self.old ≡ true → ready self.new ≡ true }
+        ensures spare { spare self.old ≤ spare self.new };
+
+    /// Whether the container is ready for changes that take no memory.
+    fn zvl_is_roomy(&self) -> bool
+        ensures { result ≡ ready self.now };
+
+    /// Puts the list into the layout in which it is settled. It takes no memory.
+    fn zvl_settle(&mut self)
+        requires { ready self.old ≡ true }
+        ensures list { Self.list self.new ≡ Self.list self.old }
+        ensures layout { Self.layout self.new ≡ settled (Self.list self.old) }
+        ensures owned { owned self.new ≡ owned self.old }
+        ensures ready { ready self.new ≡ true }
         ensures spare { spare self.old ≤ spare self.new };
 
     /// Makes the container own its bytes. One that does is never refused.

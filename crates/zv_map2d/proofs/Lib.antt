@@ -1,6 +1,7 @@
 pub mod Common
 pub mod Ends
 pub mod Flat
+pub mod Formed
 pub mod Numbers
 pub mod Parsed
 pub mod Picked

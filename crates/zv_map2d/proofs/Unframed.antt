@@ -12,13 +12,10 @@ use Rattle.zv_var.proofs.Read.{Part_from_fault, valid_from_fault}
 use Rattle.zv_var.specs.Frame.{framed, first_part}
 use Rattle.zv_var.specs.Laws.{AreValid}
 use Rattle.zv_map2d.specs.Frame.{Parts, frame, unframe}
-use Rattle.zv_map.specs.Layouts.{field_width, encoding_in}
-use Rattle.zv_map.specs.declared.view.Layout.{Layout}
-use Rattle.zv_map.specs.declared.view.Layout.TheVariants.{Fixed, Index16, Index32}
-use Rattle.zv_var.specs.Format.{enc}
-use Rattle.zv_map2d.specs.Image.{by_bytes, bytes_fault, spelling, texts_to_bytes, var_list, Stands, fault}
-use Rattle.zv_map2d.specs.Views.{AreInLayouts, written_of}
-use Rattle.zv_map2d.proofs.Common.{◌==◌, true, refl, firsts, seconds, values}
+use Rattle.zv_map2d.specs.Formats.{IsFormed, narrow, width}
+use Rattle.zv_map2d.specs.Image.{by_bytes, bytes_fault, texts_in, var_list, Stands}
+use Rattle.zv_map2d.specs.declared.image.WideLists.{WideLists}
+use Rattle.zv_map2d.proofs.Common.{Bool, true, false, refl, inl}
 use Rattle.zv_map2d.specs.declared.error.EditError.{EditError}
 use Rattle.zv_map2d.proofs.Numbers.{joiner_written}
 use Rattle.zv_map2d.proofs.Parsed.{held_lists}
@@ -69,43 +66,23 @@ spelled w fault b some bytes none e =
     let k : list_fault w fault b ≡ None = grind arith in
     rw (← e) (Part_from_fault w fault b some bytes k, valid_from_fault w fault b some bytes k)
 
+pub some_width : (wide : Bool) → 0 < width wide
+some_width true = omega arith
+some_width false = omega arith
+
 -- parts of bytes that are read without a fault are those of a map
-pub parts_stand : (image : List ℕ) (p : Parts) → image ≡ frame p → AreBytes p → read_fault texts_to_bytes p ≡ None → Stands image (rows_read texts_to_bytes p)
-parts_stand image p h bytes e =
-    let held = held_lists by_bytes by_bytes total total (lists_read texts_to_bytes p) (grind arith) in
-    let k0s = spelled 2 text_fault p.keys0 (omega arith) bytes.keys0 (grind arith) held.0.firsts_are in
-    let k1s = spelled 2 text_fault p.keys1 (omega arith) bytes.keys1 (grind arith) held.0.seconds_are in
-    let vs = spelled 2 bytes_fault p.values (omega arith) bytes.values (grind arith) held.0.values_are in
+pub parts_stand : (image : List ℕ) (w : WideLists) (p : Parts) → IsFormed image w p → AreBytes p → read_fault (texts_in w) p ≡ None →
+    Stands image (rows_read (texts_in w) p)
+parts_stand image w p h bytes e =
+    let held = held_lists by_bytes by_bytes total total (lists_read (texts_in w) p) (grind arith) in
+    let k0s = spelled (width w.keys0) text_fault p.keys0 (some_width w.keys0) bytes.keys0 (grind arith) held.0.firsts_are in
+    let k1s = spelled (width w.keys1) text_fault p.keys1 (some_width w.keys1) bytes.keys1 (grind arith) held.0.seconds_are in
+    let vs = spelled (width w.values) bytes_fault p.values (some_width w.values) bytes.values (grind arith) held.0.values_are in
     let es = sym (joiner_written p.joiner bytes.joiner (grind arith)) in
     record {
       map = record { in_order = held.1; texts0 = k0s.1; texts1 = k1s.1 };
+      lists = w;
       parts = p;
       formed = h;
       spelled = record { keys0 = k0s.0; joiner = rw (← held.0.ends_are) es; keys1 = k1s.0; values = vs.0 };
     }
-
--- a layout with fields of two bytes is one
-narrow_written : (layout : Layout) (xs : List Bytes) → (field_width layout == 2) ≡ true → encoding_in layout xs ≡ enc 2 xs
-narrow_written (Fixed w) xs e = cc
-narrow_written Index16 xs e = refl
-narrow_written Index32 xs e = cc
-
--- a map whose lists are in such layouts is written as its canonical image says
-pub texts_written : (m : Map2d) → AreInLayouts (λ l. field_width l == 2) (λ l. field_width l == 2) (λ l. field_width l == 2) m → written_of m ≡ spelling m.rows
-texts_written m h =
-    rw (
-      narrow_written m.keys0.layout (firsts m.rows) h.keys0,
-      narrow_written m.keys1.layout (seconds m.rows) h.keys1,
-      narrow_written m.values.layout (values m.rows) h.values,
-    ) refl
-
--- what reading the parts of an image gives
-module _ (image : List ℕ) (p : Parts) (bytes : IsBytes image) (e : Some p ≡ unframe image) where
-  pub parsed_stands : (r : Result Map2d EditError) → result_err r ≡ read_fault texts_to_bytes p → IfOk r (λ m. m.rows ≡ rows_read texts_to_bytes p) →
-      IfOk r (λ m. Stands image m.rows)
-  parsed_stands (Ok m) none same = let k = frame-unframe image p bytes (sym e) in rw same (parts_stand image p k.0 k.1 (sym none))
-  parsed_stands (Err x) none same = tt
-
-  pub parsed_frame : (r : Result Map2d EditError) → IfOk r (λ m. parts_of m ≡ p) → IfOk r (λ m. image ≡ frame (parts_of m))
-  parsed_frame (Ok m) same = (frame-unframe image p bytes (sym e)).0 ∙ ap frame (sym same)
-  parsed_frame (Err x) same = tt

@@ -5,7 +5,7 @@ use Rattle.zv_owned.specs.Size.{takes_insert, takes_replace}
 use Rattle.zv_map2d.specs.Keys.{Bytes, nth}
 use Rattle.zv_map.specs.Maps.{look_up, rank}
 use Rattle.zv_map2d.specs.Rows.{Rows, firsts, seconds, values, row, find, before}
-use Rattle.zv_map2d.specs.Image.{Widths, by_bytes, narrow}
+use Rattle.zv_map2d.specs.Image.{by_bytes}
 
 -- the size rules of a map's lists: whether an element of so many bytes may join the first keys, the
 -- second keys, the values, and whether one may stand in place of the value at a place
@@ -51,25 +51,25 @@ fits rule order0 order1 m k0 k1 v =
     fits_by (λ old. rule.replaces (values m) (place order0 order1 m k0 k1) (length v))
     rule order0 order1 m k0 k1 v
 
--- the size rules of a map from two texts to bytes, whose lists have fields of these widths
-abbrev pub texts_rule_in : Widths → Rule
+-- the size rules of a map from two texts to bytes, whose lists have fields of w bytes
+abbrev pub texts_rule_in : ℕ → Rule
 texts_rule_in w = record {
-  takes0 = takes_insert w.keys0;
-  takes1 = takes_insert w.keys1;
-  takes2 = takes_insert w.values;
-  replaces = λ xs i n. takes_replace w.values xs (length (nth xs i)) n;
+  takes0 = takes_insert w;
+  takes1 = takes_insert w;
+  takes2 = takes_insert w;
+  replaces = λ xs i n. takes_replace w xs (length (nth xs i)) n;
 }
 
 -- v fits in such a map, by the length of the old value
-abbrev pub fits_texts_in : Widths → Rows → Bytes → Bytes → Bytes → Bool
+abbrev pub fits_texts_in : ℕ → Rows → Bytes → Bytes → Bytes → Bool
 fits_texts_in w m k0 k1 v =
-    fits_by (λ old. takes_replace w.values (values m) (length old) (length v))
+    fits_by (λ old. takes_replace w (values m) (length old) (length v))
     (texts_rule_in w) by_bytes by_bytes m k0 k1 v
 
--- the size rules of a map from two texts to bytes
+-- the size rules of the map of an image
 abbrev pub texts_rule : Rule
-texts_rule = texts_rule_in narrow
+texts_rule = texts_rule_in 4
 
--- v fits in a map from two texts to bytes
+-- v fits in the map of an image
 abbrev pub fits_texts : Rows → Bytes → Bytes → Bytes → Bool
-fits_texts m k0 k1 v = fits_texts_in narrow m k0 k1 v
+fits_texts m k0 k1 v = fits_texts_in 4 m k0 k1 v

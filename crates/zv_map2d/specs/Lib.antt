@@ -4,6 +4,7 @@ pub mod Bounds
 pub mod Causes
 pub mod Elements
 pub mod Fits
+pub mod Formats
 pub mod Frame
 pub mod Image
 pub mod Keys

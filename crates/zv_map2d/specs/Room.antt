@@ -4,8 +4,16 @@ pub use Rattle.zv_map.specs.Vectors.{CanGrow, IsSameVector, Spends, StaysOwned}
 use Rattle.zv_map2d.specs.Rows.{seconds}
 use Rattle.zv_map2d.specs.Views.{Map2d}
 
--- each vector of a map owns its bytes, and can grow by so many of them without memory
+-- every vector is ready for a change that takes no memory
+pub record IsReady (m : Map2d) : Type 0 where
+  pub keys0 : m.keys0.ready ≡ true
+  pub joiner : m.joiner.ready ≡ true
+  pub keys1 : m.keys1.ready ≡ true
+  pub values : m.values.ready ≡ true
+
+-- each vector of a map owns its bytes, is ready, and can grow by so many of them without memory
 pub record CanGrowBy (bytes0 ends bytes1 bytes2 : ℕ) (m : Map2d) : Type 0 where
+  pub ready : IsReady m
   pub keys0 : CanGrow m.keys0 bytes0
   pub joiner : CanGrow m.joiner ends
   pub keys1 : CanGrow m.keys1 bytes1
@@ -14,6 +22,7 @@ pub record CanGrowBy (bytes0 ends bytes1 bytes2 : ℕ) (m : Map2d) : Type 0 wher
 -- room for so many puts whose elements have these lengths in sum, where fields of the three lists
 -- have w0, w1 and w2 bytes
 pub record HasRoomFor (w0 w1 w2 bytes0 bytes1 bytes2 puts : ℕ) (m : Map2d) : Type 0 where
+  pub ready : IsReady m
   pub keys0 : CanGrow m.keys0 (bytes0 + w0 * puts)
   pub joiner : CanGrow m.joiner (4 * puts)
   pub keys1 : CanGrow m.keys1 (bytes1 + w1 * puts)

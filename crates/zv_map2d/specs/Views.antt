@@ -7,7 +7,7 @@ use Rattle.zv_map2d.specs.Frame.{Parts}
 use Rattle.zv_map2d.specs.Keys.{Bytes, Order, nth}
 use Rattle.zv_map2d.specs.Rows.{Rows, firsts, seconds, values, ends, rows_of, row_at, IsFlat}
 use Rattle.zv_map2d.specs.Rows.{IsWell}
-use Rattle.zv_map.specs.Layouts.{list_in, spells_in, encoding_in}
+use Rattle.zv_map.specs.Layouts.{encoding_in, list_in, spells_in}
 pub use Rattle.zv_map.specs.Vectors.{Vector, KeepsItsRoom}
 use Rattle.zv_map.specs.declared.view.Layout.{Layout}
 use Rattle.zv_map2d.specs.declared.map.Parts.{Parts as PartsRead}
@@ -73,6 +73,12 @@ pub record AreInLayouts (has0 has1 has2 : Layout → Bool) (m : Map2d) : Type 0 
   pub keys0 : has0 m.keys0.layout ≡ true
   pub keys1 : has1 m.keys1.layout ≡ true
   pub values : has2 m.values.layout ≡ true
+
+-- the lists of the map are in the layouts that these choose
+pub record AreSettled (settled0 settled1 settled2 : List Bytes → Layout) (m : Map2d) : Type 0 where
+  pub keys0 : m.keys0.layout ≡ settled0 (firsts m.rows)
+  pub keys1 : m.keys1.layout ≡ settled1 (seconds m.rows)
+  pub values : m.values.layout ≡ settled2 (values m.rows)
 
 -- the lists of two maps are in the same layouts
 pub record AreInLayoutsOf (m n : Map2d) : Type 0 where

@@ -21,7 +21,7 @@ pub mod rows;
 pub use borrowed::ZeroMap2dBorrowed;
 pub use cursor::{Iter1, Iter1Copied, ZeroMap2dCursor};
 pub use error::{EditError, Map2dError};
-pub use image::{ImageMap, cut_parts, parse_image};
+pub use image::{ImageMap, WideLists, cut_image, cut_parts, parse_image, wide_lists};
 pub use map::{Map2dOver, Parts, ZeroMap2d};
 pub use place::Place;
 pub use rows::ZeroMap2dIter0;

@@ -2,6 +2,7 @@
 ghost use Rattle.std.specs.Prelude.{◌≡◌, ◌==◌, [], length, IsTrue};
 ghost use Rattle.std.specs.List.{flat_map};
 ghost use Rattle.zv_ule.specs.Bytes.{le};
+ghost use Rattle.zv_map.specs.Vectors.{vector_of};
 ghost use Rattle.zv_map2d.specs.Elements.{AreElements};
 ghost use Rattle.zv_map2d.specs.Rows.{IsWell, ends, firsts, seconds, values};
 ghost use Rattle.zv_map2d.specs.Views.{AreInLayouts, HasNoSpare, IsBorrowed, KeepsRoom};
@@ -192,6 +193,36 @@ impl<
             keys1: self.keys1.zvl_spelling(),
             values: self.values.zvl_spelling(),
         }
+    }
+
+    /// The list of the first keys.
+    #[inline]
+    pub fn keys0(&self) -> &C0
+        ensures list { C0.list result.now ≡ firsts self.now.rows }
+        ensures vector { self.now.keys0
+            ≡ vector_of C0.bytes C0.layout C0.spare C0.owned C0.ready result.now }
+    {
+        &self.keys0
+    }
+
+    /// The list of the second keys, row after row.
+    #[inline]
+    pub fn keys1(&self) -> &C1
+        ensures list { C1.list result.now ≡ seconds self.now.rows }
+        ensures vector { self.now.keys1
+            ≡ vector_of C1.bytes C1.layout C1.spare C1.owned C1.ready result.now }
+    {
+        &self.keys1
+    }
+
+    /// The list of the values, row after row.
+    #[inline]
+    pub fn values(&self) -> &D
+        ensures list { D.list result.now ≡ values self.now.rows }
+        ensures vector { self.now.values
+            ≡ vector_of D.bytes D.layout D.spare D.owned D.ready result.now }
+    {
+        &self.values
     }
 
     /// How many first keys there are. It reads a count.

@@ -23,7 +23,7 @@ use zv_map::{MutableZeroVecLike, ZeroVecLike, ZeroVecSearch};
 use zv_ule::{ZvKind, ZvOrd};
 
 /// The numbers of a joiner.
-fn read_joiner<'a>(bytes: &'a [u8]) -> Result<ZeroVec<'a, u32>, EditError>
+pub(crate) fn read_joiner<'a>(bytes: &'a [u8]) -> Result<ZeroVec<'a, u32>, EditError>
     ensures error { result_err result ≡ option_map Ule (joiner_fault bytes.now) }
     ensures bytes { IfOk result (λ joiner. joiner.bytes ≡ bytes.now) }
     ensures values { IfOk result (λ joiner. joiner.values ≡ numbers bytes.now) }

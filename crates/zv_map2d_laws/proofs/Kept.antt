@@ -9,10 +9,9 @@ use Rattle.std.proofs.lemmas.List.Elements.{All-append, All-drop, All-from_recur
 use Rattle.zv_map.proofs.Places.{by_place, gap_within, keys_with}
 use Rattle.zv_ule.specs.Kinds.{text_fault}
 use Rattle.zv_var.specs.Format.{codable}
-use Rattle.zv_var.proofs.Encoding.{codable_from_Part}
 use Rattle.zv_owned.proofs.Codable.{insert_codable, replace_codable, remove_codable}
 use Rattle.zv_owned.specs.Size.{takes_insert}
-use Rattle.zv_map2d.specs.Fits.{fits_texts, texts_rule}
+use Rattle.zv_map2d.specs.Fits.{fits_texts_in, texts_rule, texts_rule_in}
 use Rattle.zv_map2d.specs.Image.{by_bytes, AreTexts, Stands, canon}
 use Rattle.zv_map2d.specs.declared.place.Place.{Place}
 use Rattle.zv_map2d.specs.declared.place.Place.TheVariants.{Pair, InRow, NewRow}
@@ -22,20 +21,20 @@ use Rattle.zv_map2d.proofs.Splices.{row_added, row_removed, pair_added, pair_rem
 use Rattle.zv_map2d.proofs.Well.{put_well, del_well, row_holds}
 use Rattle.zv_map2d_laws.specs.Laws.{CanonAgain, DelCodable, DelKeeps, FitsAlike, IsCodable, PutCodable, PutKeeps, SameCanon}
 use Rattle.zv_map2d_laws.proofs.FiniteMap.{keys_rows, rows_keys}
-use Rattle.zv_map2d_laws.proofs.OnlyImage.{one_image}
-use Rattle.zv_map2d_laws.proofs.Standing.{none_from_stands, one_map, canon_stands}
+use Rattle.zv_map2d_laws.proofs.Canon.{canon_short}
+use Rattle.zv_map2d_laws.proofs.Standing.{canon_stands, codable_lists, none_from_stands, one_map}
 
 -- ---- the place of a pair of keys
 
 -- each pair of keys has a place
-place_of : (m : Rows) (k0 k1 : Bytes) → IsWell by_bytes by_bytes m → (p : Place) × IsPlace by_bytes by_bytes m k0 k1 p
+pub place_of : (m : Rows) (k0 k1 : Bytes) → IsWell by_bytes by_bytes m → (p : Place) × IsPlace by_bytes by_bytes m k0 k1 p
 place_of m k0 k1 well = by_place total k0 (firsts m) well.0 _
     (λ i at. by_place total k1 (keys_of (row_at m i)) (row_well by_bytes m i well.1 (at_within by_bytes k0 m i at)).1 _
     (λ j hit. (Pair i j, (at, hit))) (λ j gap. (InRow i j, (at, gap))))
     (λ i gap. (NewRow i, gap))
 
 -- the lists of a map are its own
-own : (m : Rows) → IsFlat (firsts m) (ends m) (seconds m) (values m) m
+pub own : (m : Rows) → IsFlat (firsts m) (ends m) (seconds m) (values m) m
 own m = record { firsts_are = refl; ends_are = refl; seconds_are = refl; values_are = refl }
 
 -- ---- a removal
@@ -55,7 +54,7 @@ module _ (P : List Bytes → Type 0) (less : (xs : List Bytes) (i : ℕ) → P x
       rw (← f.firsts_are, ← f.seconds_are, ← f.values_are) (λ q. q, less _ (before m i + j), less _ (before m i + j)))
   taken p h = (λ q. q, λ q. q, λ q. q)
 
-  by_removal : IsWell by_bytes by_bytes m → IsKept (del by_bytes by_bytes m k0 k1)
+  pub by_removal : IsWell by_bytes by_bytes m → IsKept (del by_bytes by_bytes m k0 k1)
   by_removal well = let p = place_of m k0 k1 well in rw (del_is total total m k0 k1 well p.0 p.1) (taken p.0 p.1)
 
 -- ---- texts
@@ -86,26 +85,28 @@ del_texts m k0 k1 t =
 -- ---- lists that can be written
 
 -- what fits at the place of the keys
-fits_there : (m : Rows) (k0 k1 v : Bytes) (p : Place) → IsPlace by_bytes by_bytes m k0 k1 p → fits_texts m k0 k1 v ≡ fits_at texts_rule m k0 k1 v p
-fits_there m k0 k1 v p h = fits_by_is total total m k0 k1 _ texts_rule v p h ∙ grind arith
+fits_there : (w : ℕ) (m : Rows) (k0 k1 v : Bytes) (p : Place) → IsPlace by_bytes by_bytes m k0 k1 p →
+    fits_texts_in w m k0 k1 v ≡ fits_at (texts_rule_in w) m k0 k1 v p
+fits_there w m k0 k1 v p h = fits_by_is total total m k0 k1 _ (texts_rule_in w) v p h ∙ grind arith
 
 pub fits_alike : FitsAlike
-fits_alike m k0 k1 v well = let p = place_of m k0 k1 well in fits_is total total m k0 k1 texts_rule v p.0 p.1 ∙ sym (fits_there m k0 k1 v p.0 p.1)
+fits_alike w m k0 k1 v well =
+    let p = place_of m k0 k1 well in fits_is total total m k0 k1 (texts_rule_in w) v p.0 p.1 ∙ sym (fits_there w m k0 k1 v p.0 p.1)
 
 -- a map can be written where the lists that stand for it can
-can_write : (n : Rows) {k0s : List Bytes} {es : List ℕ} {k1s vs : List Bytes} → IsFlat k0s es k1s vs n → codable 2 k0s ≡ true → codable 2 k1s ≡ true →
-    codable 2 vs ≡ true → IsCodable n
+can_write : (n : Rows) {k0s : List Bytes} {es : List ℕ} {k1s vs : List Bytes} → IsFlat k0s es k1s vs n → codable 4 k0s ≡ true → codable 4 k1s ≡ true →
+    codable 4 vs ≡ true → IsCodable n
 can_write n flat a b c = record { keys0 = rw (← flat.firsts_are) a; keys1 = rw (← flat.seconds_are) b; values = rw (← flat.values_are) c }
 
 -- a list with an element that it takes
-more : (xs : List Bytes) (i : ℕ) (e : Bytes) → i ≤ length xs → takes_insert 2 xs (length e) ≡ true → codable 2 (insert xs i e) ≡ true
-more = insert_codable 2 (omega arith) (omega arith)
+more : (xs : List Bytes) (i : ℕ) (e : Bytes) → i ≤ length xs → takes_insert 4 xs (length e) ≡ true → codable 4 (insert xs i e) ≡ true
+more = insert_codable 4 (omega arith) (omega arith)
 
 put_there : (m : Rows) (k0 k1 v : Bytes) → IsCodable m → (p : Place) → IsPlace by_bytes by_bytes m k0 k1 p → fits_at texts_rule m k0 k1 v p ≡ true →
     IsCodable (put_at m k0 k1 v p)
 put_there m k0 k1 v c (Pair i j) h fit =
     let w = pair_there by_bytes by_bytes m k0 k1 i j h in
-    let new = replace_codable 2 (omega arith) (omega arith) (values m) (before m i + j) v (pair_within (λ q. q.1) m i w.0 j w.1) c.values fit in
+    let new = replace_codable 4 (omega arith) (omega arith) (values m) (before m i + j) v (pair_within (λ q. q.1) m i w.0 j w.1) c.values fit in
     can_write _ (value_set (own m) i j (before m i + j) w.0 refl v w.1) c.keys0 c.keys1 new
 put_there m k0 k1 v c (InRow i j) h fit =
     let w = at_within by_bytes k0 m i h.0 in
@@ -123,11 +124,11 @@ put_there m k0 k1 v c (NewRow i) h fit =
 pub put_codable : PutCodable
 put_codable m k0 k1 v t c fit =
     let p = place_of m k0 k1 t.in_order in
-    rw (put_is total total m k0 k1 v p.0 p.1) (put_there m k0 k1 v c p.0 p.1 (sym (fits_there m k0 k1 v p.0 p.1) ∙ fit))
+    rw (put_is total total m k0 k1 v p.0 p.1) (put_there m k0 k1 v c p.0 p.1 (sym (fits_there 4 m k0 k1 v p.0 p.1) ∙ fit))
 
 pub del_codable : DelCodable
 del_codable m k0 k1 t c =
-    let keeps = by_removal (λ xs. codable 2 xs ≡ true) (remove_codable 2 (omega arith) (omega arith)) m k0 k1 t.in_order in
+    let keeps = by_removal (λ xs. codable 4 xs ≡ true) (remove_codable 4 (omega arith) (omega arith)) m k0 k1 t.in_order in
     record { keys0 = keeps.0 c.keys0; keys1 = keeps.1 c.keys1; values = keeps.2 c.values }
 
 -- ---- images
@@ -135,18 +136,10 @@ del_codable m k0 k1 t c =
 pub canon_again : CanonAgain
 canon_again m t c l = let own = canon_stands m t c in (none_from_stands (canon m) m l own, λ n s. one_map (canon m) n m l s own)
 
--- the canonical image of a map that an image stands for stands for it, and is no longer than a slice may be
-module _ (image : List ℕ) where
-  canon_of : (m : Rows) → Stands image m → Stands (canon m) m
-  canon_of m s =
-      let p = s.spelled in
-      canon_stands m s.map
-      (record { keys0 = codable_from_Part 2 _ _ p.keys0; keys1 = codable_from_Part 2 _ _ p.keys1; values = codable_from_Part 2 _ _ p.values })
-
-  canon_short : (m : Rows) → length image < 2 ^ 64 → Stands image m → length (canon m) < 2 ^ 64
-  canon_short [] l s = omega arith
-  canon_short (r ∷ m) l s = rw (one_image image (r ∷ m) s (λ e. cc)) at l
+-- the canonical image of a map that an image stands for stands for it
+canon_of : (image : List ℕ) (m : Rows) → Stands image m → Stands (canon m) m
+canon_of image m s = canon_stands m s.map (codable_lists s.spelled)
 
 pub same_canon : SameCanon
 same_canon image other m n l k s t =
-    (ap canon, λ e. one_map (canon m) m n (canon_short image m l s) (canon_of image m s) (rw (← e) at (canon_of other n t)))
+    (ap canon, λ e. one_map (canon m) m n (omega (arith, canon_short image m s)) (canon_of image m s) (rw (← e) at (canon_of other n t)))

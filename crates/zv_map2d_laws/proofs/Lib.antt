@@ -1,5 +1,7 @@
+pub mod Canon
 pub mod Checks
 pub mod FiniteMap
 pub mod Kept
 pub mod OnlyImage
+pub mod Sizes
 pub mod Standing

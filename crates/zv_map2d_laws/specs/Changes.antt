@@ -4,7 +4,7 @@ use Rattle.std.specs.Prelude.{◌≡◌, true, false, Bool, List, [], ◌∷◌,
 use Rattle.zv_map2d.specs.Keys.{Bytes}
 use Rattle.zv_map2d.specs.Rows.{Rows, put, del, ends, shift_from}
 use Rattle.zv_map2d.specs.Image.{by_bytes}
-use Rattle.zv_map2d.specs.Fits.{Rule, place, fits, fits_texts}
+use Rattle.zv_map2d.specs.Fits.{Rule, place, fits, fits_texts, fits_texts_in}
 
 -- a row of these pairs
 abbrev pub row : String → List (Bytes × Bytes) → Bytes × List (Bytes × Bytes)
@@ -72,12 +72,14 @@ abbrev pub ten : Rows
 ten = row "b" ((codes "c", replicate 10 0) ∷ []) ∷ []
 
 -- with fields of two bytes a value has at most 65,534 bytes, and one of 10 bytes gives way to one
--- of 65,533 in a list of its own
+-- of 65,533 in a list of its own; with fields of four bytes there is room for them
 abbrev pub LongValues : Type 0
-LongValues = (fits_texts [] (codes "b") (codes "c") (replicate 65534 0) ≡ true)
-    × (fits_texts [] (codes "b") (codes "c") (replicate 65535 0) ≡ false)
-    × (fits_texts ten (codes "b") (codes "c") (replicate 65533 0) ≡ true)
-    × (fits_texts ten (codes "b") (codes "c") (replicate 65534 0) ≡ false)
+LongValues = (fits_texts_in 2 [] (codes "b") (codes "c") (replicate 65534 0) ≡ true)
+    × (fits_texts_in 2 [] (codes "b") (codes "c") (replicate 65535 0) ≡ false)
+    × (fits_texts_in 2 ten (codes "b") (codes "c") (replicate 65533 0) ≡ true)
+    × (fits_texts_in 2 ten (codes "b") (codes "c") (replicate 65534 0) ≡ false)
+    × (fits_texts [] (codes "b") (codes "c") (replicate 65535 0) ≡ true)
+    × (fits_texts ten (codes "b") (codes "c") (replicate 65534 0) ≡ true)
 
 -- size rules that take another value for a pair, no first key, and maybe a second key
 abbrev pub no_first_keys : Bool → Rule

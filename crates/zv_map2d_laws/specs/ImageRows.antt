@@ -77,7 +77,7 @@ TwoRows = (why (two 97 98) (1 ∷ 2 ∷ []) (two 122 97) (two 1 2) ≡ None)
 -- a byte too few, a byte too many, and a length that is more than is left
 abbrev pub NoFrame : Type 0
 NoFrame = (fault (zeros 31) ≡ Some EditError.Frame) × (fault (zeros 33) ≡ Some EditError.Frame)
-    × (fault (replicate 8 255 ++ (16 ∷ 16 ∷ 16 ∷ zeros 32)) ≡ Some EditError.Frame)
+    × (fault (replicate 7 255 ++ (254 ∷ zeros 24)) ≡ Some EditError.Frame)
 
 -- a joiner of three bytes and bad keys; bad keys alone
 abbrev pub Lengths : Type 0

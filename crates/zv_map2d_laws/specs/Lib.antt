@@ -1,5 +1,7 @@
 pub mod Changes
 pub mod FiniteMap
+pub mod HeadRows
 pub mod ImageRows
 pub mod Laws
 pub mod Locales
+pub mod Sizes

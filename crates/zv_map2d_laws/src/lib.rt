@@ -8,13 +8,16 @@ ghost use Rattle.zv_map2d_laws.specs.Changes.{NewFirstRow, NewPair, OneOfTwo, On
 ghost use Rattle.zv_map2d_laws.specs.FiniteMap.{DelIsGone, DelIsWell, DelLeavesOthers, FoundAlike};
 ghost use Rattle.zv_map2d_laws.specs.FiniteMap.{FoundInRow, KeepsLast, PutIsFound, PutIsWell};
 ghost use Rattle.zv_map2d_laws.specs.FiniteMap.{PutLeavesOthers, TextsAreExact};
+ghost use Rattle.zv_map2d_laws.specs.HeadRows.{CutHeads, Heads, Names, WideCanon, WideErrors};
 ghost use Rattle.zv_map2d_laws.specs.ImageRows.{Alone, Counts, Empty, Ends, Finds, Lengths};
 ghost use Rattle.zv_map2d_laws.specs.ImageRows.{Neighbours, NoFrame, OnePair, OtherSpellings};
 ghost use Rattle.zv_map2d_laws.specs.ImageRows.{OwnErrors, Prefixes, Texts, TwoRows};
-ghost use Rattle.zv_map2d_laws.specs.Laws.{CanonAgain, CanonStands, DelCodable, DelKeeps};
-ghost use Rattle.zv_map2d_laws.specs.Laws.{EmptyStands, FitsAlike, FrameExactly, IsReadExactly};
-ghost use Rattle.zv_map2d_laws.specs.Laws.{OneImage, PutCodable, PutKeeps, SameCanon, StandsForOne};
+ghost use Rattle.zv_map2d_laws.specs.Laws.{CanonAgain, CanonBounded, CanonStands, DelCodable};
+ghost use Rattle.zv_map2d_laws.specs.Laws.{DelKeeps, EmptyStands, FitsAlike, FrameExactly};
+ghost use Rattle.zv_map2d_laws.specs.Laws.{IsReadExactly, OneSpelling, PutCodable, PutKeeps};
+ghost use Rattle.zv_map2d_laws.specs.Laws.{SameCanon, StandsForOne};
 ghost use Rattle.zv_map2d_laws.specs.Locales.{Locales};
+ghost use Rattle.zv_map2d_laws.specs.Sizes.{DelShrinks, ImageHolds, PutGrows, SmallFits};
 
 /// Worked images. It does nothing.
 pub fn worked_images()
@@ -35,12 +38,22 @@ pub fn worked_images()
     ensures locales { Locales }
 {}
 
+/// Worked images with heads. It does nothing.
+pub fn worked_heads()
+    ensures heads { Heads }
+    ensures cut { CutHeads }
+    ensures names { Names }
+    ensures errors { WideErrors }
+    ensures canon { WideCanon }
+{}
+
 /// Images and the maps that they stand for. It does nothing.
 pub fn laws()
     ensures read { IsReadExactly }
     ensures one { StandsForOne }
     ensures canon { CanonStands }
-    ensures image { OneImage }
+    ensures spelling { OneSpelling }
+    ensures bounded { CanonBounded }
     ensures frame { FrameExactly }
 {}
 
@@ -54,6 +67,15 @@ pub fn changes()
     ensures fits { FitsAlike }
     ensures again { CanonAgain }
     ensures same { SameCanon }
+{}
+
+/// The lists of an image's map, and what changes add to them: a value fits while they are short. It
+/// does nothing.
+pub fn growth()
+    ensures put { PutGrows }
+    ensures del { DelShrinks }
+    ensures image { ImageHolds }
+    ensures fits { SmallFits }
 {}
 
 /// A map in two levels is a finite map: what a pair has is what its second key has in the row of

@@ -56,10 +56,6 @@ fn try_long(
 
 const EMPTY_LINE: &str = "x0000000000000000000000000000000000000000000000000000000000000000\n";
 
-// The answer to a put that is refused, where there is no pair.
-const REFUSED: &str =
-    "toolarge\nimage x0000000000000000000000000000000000000000000000000000000000000000\n";
-
 // The image of a value of "a" and "b", up to the length of the values.
 const ONE_ROW: &str = "03000000000000000100610400000000000000010000000300000000000000010062";
 
@@ -79,19 +75,24 @@ fn long_values_are_replaced(rt: HostRuntime) -> Result<(), Fail> {
         ],
         Status::Done,
         &[
-            Part::Once("new\ntoolarge\nold x"),
+            Part::Once("new\nnew\nold x"),
             Part::Times("11", 65_534),
             Part::Once("\nold x"),
             Part::Times("22", 65_534),
-            Part::Once("\nimage x"),
-            Part::Once(ONE_ROW),
-            Part::Once("0300000000000000010002\n"),
+            Part::Once(
+                "\nimage x0300000000000000010061040000000000000002000000\
+                060000000000000002000100626306000000000000000200\
+                01000201\n",
+            ),
         ],
     )
 }
 
+// The values are wide, and the keys are not.
+const WIDE_VALUES: &str = "ffffffffffffffff101020";
+
 #[test]
-fn a_refused_put_leaves_no_first_key(rt: HostRuntime) -> Result<(), Fail> {
+fn a_put_beside_a_long_value_is_answered(rt: HostRuntime) -> Result<(), Fail> {
     try_long(
         &rt,
         rt.alloc(),
@@ -103,11 +104,15 @@ fn a_refused_put_leaves_no_first_key(rt: HostRuntime) -> Result<(), Fail> {
         ],
         Status::Done,
         &[
-            Part::Once("new\ntoolarge\nnone\nimage x"),
-            Part::Once(ONE_ROW),
-            Part::Once("00000100000000000100"),
+            Part::Once("new\nnew\nrow x64 x01\nimage x"),
+            Part::Once(WIDE_VALUES),
+            Part::Once(
+                "060000000000000002000100616308000000000000000100\
+                00000200000006000000000000000200010062640700010000000000\
+                02000000feff0000",
+            ),
             Part::Times("11", 65_534),
-            Part::Once("\n"),
+            Part::Once("01\n"),
         ],
     )
 }
@@ -130,7 +135,9 @@ fn an_oversized_value_is_read_and_shortened(rt: HostRuntime) -> Result<(), Fail>
         &[
             Part::Once("some x"),
             Part::Times("33", 70_000),
-            Part::Once("\ntoolarge\nold x"),
+            Part::Once("\nold x"),
+            Part::Times("33", 70_000),
+            Part::Once("\nold x"),
             Part::Times("33", 70_000),
             Part::Once("\nimage x"),
             Part::Once(ONE_ROW),
@@ -160,17 +167,39 @@ fn try_puts(
 }
 
 #[test]
-fn the_size_rule_is_kept(rt: HostRuntime) -> Result<(), Fail> {
+fn a_value_that_needs_wide_fields_is_put(rt: HostRuntime) -> Result<(), Fail> {
+    try_long(
+        &rt,
+        rt.alloc(),
+        &[
+            Part::Once(EMPTY_LINE),
+            Part::Once("put x61 x62 x"),
+            Part::Times("11", 65_535),
+            Part::Once("\n"),
+        ],
+        Status::Done,
+        &[
+            Part::Once("new\nimage x"),
+            Part::Once(WIDE_VALUES),
+            Part::Once(ONE_ROW),
+            Part::Once("030001000000000001000000"),
+            Part::Times("11", 65_535),
+            Part::Once("\n"),
+        ],
+    )
+}
+
+// A list is wide where narrow fields would make it longer than 65,535 bytes.
+#[test]
+fn a_list_is_wide_by_need(rt: HostRuntime) -> Result<(), Fail> {
     let alloc = rt.alloc();
     try_puts(
         &rt,
         alloc,
         "x0000000000000000000000000000000000000000000000000000000000000000\nput x61 x62 x",
         &[
-            (65_533, "new\n"),
-            (65_534, "new\n"),
-            (65_535, REFUSED),
-            (65_536, REFUSED),
+            (65_533, "new\nimage x03"),
+            (65_534, "new\nimage xffffffffffffffff101020"),
         ],
     )?;
 
@@ -181,7 +210,10 @@ fn the_size_rule_is_kept(rt: HostRuntime) -> Result<(), Fail> {
         &rt,
         alloc,
         ten,
-        &[(65_533, "old x"), (65_534, "toolarge\n")],
+        &[
+            (65_533, "old x00000000000000000000\nimage x03"),
+            (65_534, "old x00000000000000000000\nimage xff"),
+        ],
     )?;
     let one = "x03000000000000000100610400000000000000010000000300000000000000010062\
         0300000000000000010001\nput x61 x63 x";
@@ -189,7 +221,10 @@ fn the_size_rule_is_kept(rt: HostRuntime) -> Result<(), Fail> {
         &rt,
         alloc,
         one,
-        &[(65_530, "new\n"), (65_531, "toolarge\n")],
+        &[
+            (65_530, "new\nimage x03"),
+            (65_531, "new\nimage xff"),
+        ],
     )
 }
 

@@ -4,7 +4,7 @@ ghost use Rattle.zv_var.specs.Format.{elements, list_fault};
 ghost use Rattle.zv_var.specs.Nested.{slice_fault};
 ghost use Rattle.zv_owned.specs.Size.{takes_insert, takes_replace};
 ghost use Rattle.zv_map.specs.Flexes.{flex_bytes, flex_layout, flex_list, flex_owned, flex_roomy};
-ghost use Rattle.zv_map.specs.Flexes.{flex_spare, has_fields};
+ghost use Rattle.zv_map.specs.Flexes.{flex_settled, flex_spare, has_fields};
 ghost use Rattle.zv_map.specs.Keys.{nth};
 ghost use Rattle.zv_map.specs.declared.view.Layout.TheVariants.{Index16 as LayoutIndex16};
 
@@ -78,6 +78,8 @@ impl<'a, T: ZvKind> ZvContainer<T> for FlexVec<'a, T> {
 
     ghost has_layout = { has_fields };
 
+    ghost settled = { flex_settled };
+
     ghost parse_fault = { λ bytes. slice_fault (list_fault 2 T.fault bytes) };
 
     ghost parse_list = { elements 2 };
@@ -130,6 +132,16 @@ impl<'a, T: ZvKind> ZvContainer<T> for FlexVec<'a, T> {
     #[inline]
     fn zvl_clear(&mut self) {
         self.clear();
+    }
+
+    #[inline]
+    fn zvl_is_roomy(&self) -> bool {
+        self.is_roomy()
+    }
+
+    #[inline]
+    fn zvl_settle(&mut self) {
+        self.settle();
     }
 
     #[inline]

@@ -1,10 +1,11 @@
 // Room for changes that take no memory.
-ghost use Rattle.std.specs.Prelude.{◌≡◌, ◌+◌, ◌*◌, IfErr, IfOk, IfSome, IsTrue, OnOk, [], length};
+ghost use Rattle.std.specs.Prelude.{◌≡◌, ◌+◌, ◌*◌, ◌↔◌, IfErr, IfOk, IfSome, IsTrue, OnOk, []};
+ghost use Rattle.std.specs.Prelude.{length};
 ghost use Rattle.std.specs.Prelude.{nat_lt, true};
 ghost use Rattle.zv_map2d.specs.Refusals.{RefusedUnless};
-ghost use Rattle.zv_map2d.specs.Room.{CanGrowBy, HasRoomFor, IsOwned, IsSameMap};
+ghost use Rattle.zv_map2d.specs.Room.{CanGrowBy, HasRoomFor, IsOwned, IsReady, IsSameMap};
 ghost use Rattle.zv_map2d.specs.Rows.{seconds};
-ghost use Rattle.zv_map2d.specs.Views.{no_bytes, parts_of};
+ghost use Rattle.zv_map2d.specs.Views.{AreSettled, KeepsRoom, no_bytes, parts_of};
 
 use crate::error::Map2dError;
 use crate::map::Map2dOver;
@@ -76,6 +77,29 @@ impl<
         self.joiner.reserve_bytes(alloc, ends)?;
         self.keys1.zvl_reserve(alloc, additional)?;
         self.values.zvl_reserve(alloc, additional)
+    }
+
+    /// Whether every vector is ready for changes that take no memory.
+    pub fn is_roomy(&self) -> bool
+        ensures { IsTrue result ↔ IsReady self.now }
+    {
+        self.keys0.zvl_is_roomy()
+            && self.joiner.is_owned()
+            && self.keys1.zvl_is_roomy()
+            && self.values.zvl_is_roomy()
+    }
+
+    /// Puts each list into the layout in which it is settled. It takes no memory, and costs
+    /// something only where a layout changes.
+    pub fn settle(&mut self)
+        requires { IsReady self.old }
+        ensures rows { self.new.rows ≡ self.old.rows }
+        ensures layouts { AreSettled C0.settled C1.settled D.settled self.new }
+        ensures room { KeepsRoom self.old self.new }
+    {
+        self.keys0.zvl_settle();
+        self.keys1.zvl_settle();
+        self.values.zvl_settle();
     }
 
     /// Makes every vector own its bytes, so that [`discard`](Self::discard) may be called.
