@@ -43,7 +43,7 @@ fn a_list_is_full(rt: HostRuntime) -> Result<(), Fail> {
     assert!(rt; put(&mut map, alloc, ("a", "b"), &[2]) == Ok(false));
     assert!(rt;
         map.get_2d(&"a", &"b")
-            .is_some_and(|value| *value.as_bytes() == [2])
+            .is_some_and(|value| value.as_bytes() == [2].as_slice())
     );
     Ok(())
 }

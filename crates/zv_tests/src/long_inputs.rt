@@ -34,10 +34,22 @@ pub fn text_of(alloc: Global, parts: &[Part<'_>]) -> Result<Vec<u8>, Fail> {
 }
 
 // What the program answers to an input.
-fn long_answer(alloc: Global, input: &[Part<'_>]) -> Result<Answer, Fail> {
-    let input = text_of(alloc, input)?;
-    let devices = memory_devices(alloc, &input, 65_536, 1_000_000)?;
+fn long_answer(alloc: Global, input: &[u8]) -> Result<Answer, Fail> {
+    let devices = memory_devices(alloc, input, 65_536, 1_000_000)?;
     Ok(answer_of(alloc, &words_of(alloc, &["edit"])?, devices))
+}
+
+/// The program answers this to an input.
+pub fn try_long_input(
+    rt: &impl Abort,
+    alloc: Global,
+    input: &[u8],
+    output: &[u8],
+) -> Result<(), Fail> {
+    let answer = long_answer(alloc, input)?;
+    assert!(rt; answer.status == Status::Done);
+    assert!(rt; answer.sink.taken() == output);
+    Ok(())
 }
 
 // The program ends so on an input, and wrote this.
@@ -48,7 +60,7 @@ fn try_long(
     status: Status,
     output: &[Part<'_>],
 ) -> Result<(), Fail> {
-    let answer = long_answer(alloc, input)?;
+    let answer = long_answer(alloc, &text_of(alloc, input)?)?;
     assert!(rt; answer.status == status);
     assert!(rt; *answer.sink.taken() == *text_of(alloc, output)?);
     Ok(())
@@ -146,26 +158,6 @@ fn an_oversized_value_is_read_and_shortened(rt: HostRuntime) -> Result<(), Fail>
     )
 }
 
-// How the answer to a put of a value of so many bytes begins.
-fn try_puts(
-    rt: &impl Abort,
-    alloc: Global,
-    image_and_put: &str,
-    puts: &[(usize, &str)],
-) -> Result<(), Fail> {
-    for (len, begin) in puts {
-        let input = [
-            Part::Once(image_and_put),
-            Part::Times("11", *len),
-            Part::Once("\n"),
-        ];
-        let answer = long_answer(alloc, &input)?;
-        assert!(rt; answer.status == Status::Done);
-        assert!(rt; answer.sink.taken().starts_with(begin.as_bytes()));
-    }
-    Ok(())
-}
-
 #[test]
 fn a_value_that_needs_wide_fields_is_put(rt: HostRuntime) -> Result<(), Fail> {
     try_long(
@@ -189,43 +181,106 @@ fn a_value_that_needs_wide_fields_is_put(rt: HostRuntime) -> Result<(), Fail> {
     )
 }
 
-// A list is wide where narrow fields would make it longer than 65,535 bytes.
+// A value of so many bytes is put into the empty map, and the image is so long.
+fn try_size(rt: &impl Abort, alloc: Global, len: usize, size: usize, head: &str) -> Result<(), Fail> {
+    let input = [
+        Part::Once(EMPTY_LINE),
+        Part::Once("put x61 x62 x"),
+        Part::Times("11", len),
+    ];
+    let answer = long_answer(alloc, &text_of(alloc, &input)?)?;
+    let front = text_of(alloc, &[Part::Once("new\nimage x"), Part::Once(head)])?;
+    assert!(rt; answer.sink.taken().starts_with(&front));
+
+    // Two digits for each byte, `new` and `image x`, and an LF behind each.
+    assert!(rt; answer.sink.taken().len() == 12 + 2 * size);
+    Ok(())
+}
+
+#[test]
+fn an_image_has_a_head_where_a_list_is_wide(rt: HostRuntime) -> Result<(), Fail> {
+    let alloc = rt.alloc();
+    try_size(&rt, alloc, 65_533, 65_577, ONE_ROW)?;
+    try_size(&rt, alloc, 65_534, 65_591, WIDE_VALUES)
+}
+
+// The image of a value of so many bytes for "a" and "b", and 01 for "c" and "d": narrow up to
+// 65,530 bytes, and wide above.
+fn two_values(alloc: Global, len: usize) -> Result<Vec<u8>, Fail> {
+    let (head, fields) = match len {
+        65_530 => ("", "ffff0000000000000200faff"),
+        65_531 => (WIDE_VALUES, "040001000000000002000000fbff0000"),
+        _ => (WIDE_VALUES, "070001000000000002000000feff0000"),
+    };
+    text_of(
+        alloc,
+        &[
+            Part::Once(head),
+            Part::Once("0600000000000000020001006163"),
+            Part::Once("08000000000000000100000002000000"),
+            Part::Once("0600000000000000020001006264"),
+            Part::Once(fields),
+            Part::Times("11", len),
+            Part::Once("01"),
+        ],
+    )
+}
+
+// A change of the first value is answered with the second image, and undone with the first.
+fn try_two(rt: &impl Abort, alloc: Global, lens: [usize; 2]) -> Result<(), Fail> {
+    let [from, to] = lens;
+    let image = two_values(alloc, from)?;
+    let mut input = text_of(alloc, &[Part::Once("x")])?;
+    input.extend_from_slice(&image)?;
+    input.extend_from_slice(&text_of(
+        alloc,
+        &[Part::Once("\nput x61 x62 x"), Part::Times("11", to)],
+    )?)?;
+    let mut output = text_of(
+        alloc,
+        &[
+            Part::Once("old x"),
+            Part::Times("11", from),
+            Part::Once("\nimage x"),
+        ],
+    )?;
+    output.extend_from_slice(&two_values(alloc, to)?)?;
+    output.push(b'\n')?;
+    try_long_input(rt, alloc, &input, &output)
+}
+
 #[test]
 fn a_list_is_wide_by_need(rt: HostRuntime) -> Result<(), Fail> {
     let alloc = rt.alloc();
-    try_puts(
-        &rt,
-        alloc,
-        "x0000000000000000000000000000000000000000000000000000000000000000\nput x61 x62 x",
-        &[
-            (65_533, "new\nimage x03"),
-            (65_534, "new\nimage xffffffffffffffff101020"),
-        ],
-    )?;
+    for lens in [
+        [65_530, 65_530],
+        [65_530, 65_531],
+        [65_531, 65_530],
+        [65_531, 65_534],
+        [65_534, 65_530],
+        [65_534, 65_531],
+    ] {
+        try_two(&rt, alloc, lens)?;
+    }
+    Ok(())
+}
 
-    // A value of 10 bytes, and of one.
-    let ten = "x03000000000000000100610400000000000000010000000300000000000000010062\
-        0c00000000000000010000000000000000000000\nput x61 x62 x";
-    try_puts(
-        &rt,
+#[test]
+fn an_image_that_becomes_narrow_has_no_head(rt: HostRuntime) -> Result<(), Fail> {
+    let alloc = rt.alloc();
+    let mut input = text_of(alloc, &[Part::Once("x")])?;
+    input.extend_from_slice(&two_values(alloc, 65_534)?)?;
+    input.extend_from_slice(b"\nget x63 x64\ndel x61 x62\n")?;
+    let output = text_of(
         alloc,
-        ten,
         &[
-            (65_533, "old x00000000000000000000\nimage x03"),
-            (65_534, "old x00000000000000000000\nimage xff"),
+            Part::Once("some x01\nold x"),
+            Part::Times("11", 65_534),
+            Part::Once("\nimage x0300000000000000010063040000000000000001000000"),
+            Part::Once("03000000000000000100640300000000000000010001\n"),
         ],
     )?;
-    let one = "x03000000000000000100610400000000000000010000000300000000000000010062\
-        0300000000000000010001\nput x61 x63 x";
-    try_puts(
-        &rt,
-        alloc,
-        one,
-        &[
-            (65_530, "new\nimage x03"),
-            (65_531, "new\nimage xff"),
-        ],
-    )
+    try_long_input(&rt, alloc, &input, &output)
 }
 
 // The limit is 2^20 times as long.
