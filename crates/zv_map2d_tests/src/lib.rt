@@ -15,3 +15,5 @@ mod narrow;
 mod reads;
 #[cfg(test)]
 mod regions;
+#[cfg(test)]
+mod wide;
