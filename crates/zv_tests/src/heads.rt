@@ -117,7 +117,11 @@ fn try_spellings(
     let mut input = join(alloc, &headed(keys0, keys1, values))?;
     try_input(rt, alloc, &input, Status::Done, &["image x", PAIR, "\n"])?;
     input.extend_from_slice(b"\nget x61 x62\nput x61 x62 x01\nrow x61\ndel x61 x62\n")?;
-    let output = ["some x01\nold x01\nrow x62 x01\nold x01\nimage x", EMPTY, "\n"];
+    let output = [
+        "some x01\nold x01\nrow x62 x01\nold x01\nimage x",
+        EMPTY,
+        "\n",
+    ];
     try_input(rt, alloc, &input, Status::Done, &output)
 }
 
@@ -279,7 +283,11 @@ struct LongLists {
 
 // The name of the format of a list, and its fields.
 fn spelling_of(list: &LongList, is_wide: bool) -> (&'static str, &'static str) {
-    if is_wide { ("20", list.wide) } else { ("10", list.narrow) }
+    if is_wide {
+        ("20", list.wide)
+    } else {
+        ("10", list.narrow)
+    }
 }
 
 // The image of three lists which are wide or narrow as these say, with a head where one is wanted.
@@ -293,7 +301,11 @@ fn long_image(
     let (name0, fields0) = spelling_of(lists.keys0, wide0);
     let (name1, fields1) = spelling_of(lists.keys1, wide1);
     let (name2, fields2) = spelling_of(lists.values, wide2);
-    let head = if has_head { [MARK, name0, name1, name2] } else { [""; 4] };
+    let head = if has_head {
+        [MARK, name0, name1, name2]
+    } else {
+        [""; 4]
+    };
     let mut image = join(alloc, &head)?;
     image.extend_from_slice(&text_of(
         alloc,
@@ -321,7 +333,11 @@ fn around(alloc: Global, front: &str, image: &[u8], back: &str) -> Result<Vec<u8
 // The lists come into the empty map by a put, or stand in an image, narrow or wide: they are
 // written in the formats that they need.
 fn try_lengths(rt: &impl Abort, alloc: Global, lists: &LongLists) -> Result<(), Fail> {
-    let needed = [lists.keys0.is_wide, lists.keys1.is_wide, lists.values.is_wide];
+    let needed = [
+        lists.keys0.is_wide,
+        lists.keys1.is_wide,
+        lists.values.is_wide,
+    ];
     let canonical = long_image(alloc, lists, needed, needed != [false; 3])?;
     let line = around(alloc, "image x", &canonical, "\n")?;
     let put = text_of(

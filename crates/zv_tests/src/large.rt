@@ -1,5 +1,5 @@
-// Wide images of one row that has many pairs: of 10 MB of text, and of more pairs than fields of two
-// bytes can count.
+// Wide images of one row of many pairs: of 10 MB of text, and of more pairs than fields of two bytes
+// can count. An unproved run needs over a minute to read the first byte by byte.
 use crate::long_inputs::{Part, text_of};
 use crate::runs::{answer_of, memory_devices, words_of};
 use std::alloc::Global;
@@ -43,12 +43,16 @@ fn key_of(pair: u32) -> [u8; 3] {
 
 // Each byte of a value, at first and once one was changed.
 fn value_of(pair: u32, is_changed: bool) -> u8 {
-    if is_changed && pair == CHANGED { 255 } else { (pair % 251) as u8 }
+    if is_changed && pair == CHANGED {
+        255
+    } else {
+        (pair % 251) as u8
+    }
 }
 
 // A list of so many elements of one length is wide by need.
 fn is_wide(count: u32, len: u32) -> bool {
-    65_535 < (count as u64) * (2 + len as u64)
+    65_535 < (count as u64).saturating_mul(2 + len as u64)
 }
 
 // The byte that names the format of a list.
@@ -71,7 +75,7 @@ fn push_field(bytes: &mut Vec<u8>, number: u32, is_wide: bool) -> Result<(), Fai
 fn push_fields(bytes: &mut Vec<u8>, count: u32, len: u32) -> Result<(), Fail> {
     let wide = is_wide(count, len);
     let width: u64 = if wide { 4 } else { 2 };
-    let size = (count as u64) * (width + len as u64);
+    let size = (count as u64).saturating_mul(width.saturating_add(len as u64));
     bytes.extend_from_slice(&size.to_le_bytes())?;
     push_field(bytes, count, wide)?;
     for index in 1..count {
@@ -100,7 +104,11 @@ fn push_pairs(bytes: &mut Vec<u8>, row: Row, first: u32, is_changed: bool) -> Re
 fn image_of(alloc: Global, row: Row, first: u32, is_changed: bool) -> Result<String, Fail> {
     let count = row.pairs.saturating_sub(first);
     let mut bytes = Vec::from_slice(alloc, &[255; 8])?;
-    bytes.extend_from_slice(&[16, name_of(is_wide(count, 3)), name_of(is_wide(count, row.value_len))])?;
+    bytes.extend_from_slice(&[
+        16,
+        name_of(is_wide(count, 3)),
+        name_of(is_wide(count, row.value_len)),
+    ])?;
     bytes.extend_from_slice(FRONT)?;
     push_pairs(&mut bytes, row, first, is_changed)?;
     Ok(hex::encode(alloc, bytes.as_slice())?)

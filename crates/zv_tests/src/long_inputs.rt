@@ -182,7 +182,13 @@ fn a_value_that_needs_wide_fields_is_put(rt: HostRuntime) -> Result<(), Fail> {
 }
 
 // A value of so many bytes is put into the empty map, and the image is so long.
-fn try_size(rt: &impl Abort, alloc: Global, len: usize, size: usize, head: &str) -> Result<(), Fail> {
+fn try_size(
+    rt: &impl Abort,
+    alloc: Global,
+    len: usize,
+    size: usize,
+    head: &str,
+) -> Result<(), Fail> {
     let input = [
         Part::Once(EMPTY_LINE),
         Part::Once("put x61 x62 x"),
