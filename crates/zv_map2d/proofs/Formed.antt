@@ -18,8 +18,9 @@ use Rattle.zv_var.specs.Format.{enc}
 use Rattle.zv_owned.specs.Widths.{wide}
 use Rattle.zv_map.specs.Flexes.{flex_settled}
 use Rattle.zv_map.specs.Layouts.{encoding_in, field_width}
+use Rattle.zv_map.specs.declared.view.Layout.{Layout}
 use Rattle.zv_map.specs.declared.view.Layout.TheVariants.{Index16, Index32}
-use Rattle.zv_map2d.proofs.Common.{◌==◌, true, false, firsts, seconds, values, Bytes, Map2d, Result, Ok, Err, parts_of, read_fault, rows_read}
+use Rattle.zv_map2d.proofs.Common.{◌==◌, true, false, firsts, seconds, values, Bytes, Map2d, Vector, Result, Ok, Err, parts_of, read_fault, rows_read}
 use Rattle.zv_map2d.specs.Formats.{width}
 use Rattle.zv_map2d.specs.Image.{Stands, lists_of, spelling_in, texts_in, wides_of}
 use Rattle.zv_map2d.specs.Views.{AreSettled, written_of}
@@ -71,6 +72,28 @@ formed-unformed image w p bytes e = elim (cases_Bool (bytes_eq (take 8 image) ma
       (inl (f.0, sym (ap (λ x. x.0) k.2)), f.1)
 ]
 
+-- the same formats and parts
+formed_as : (image : List ℕ) (v : WideLists) (q : Parts) (w : WideLists) (p : Parts) → v ≡ w → q ≡ p → IsFormed image w p → IsFormed image v q
+formed_as image v q w p same_lists same_parts h = rw (same_lists, same_parts) h
+
+-- a list's format is seen in its layout
+abbrev pub layout_of : Bool → Layout
+layout_of wide = if wide then Index32 else Index16
+
+seen_width : (wide : Bool) → (field_width (layout_of wide) == 4) ≡ wide
+seen_width true = refl
+seen_width false = refl
+
+pub formats_seen : (r : Result Map2d EditError) (w : WideLists) (a b c : Vector) →
+    IfOk r (λ m. m.keys0 ≡ a) → IfOk r (λ m. m.keys1 ≡ b) → IfOk r (λ m. m.values ≡ c) →
+    a.layout ≡ layout_of w.keys0 → b.layout ≡ layout_of w.keys1 → c.layout ≡ layout_of w.values → IfOk r (λ m. lists_of m ≡ w)
+formats_seen (Ok m) w a b c ea eb ec la lb lc =
+    let keys0 = ap (λ (v : Vector). field_width v.layout == 4) ea ∙ ap (λ l. field_width l == 4) la ∙ seen_width w.keys0 in
+    let keys1 = ap (λ (v : Vector). field_width v.layout == 4) eb ∙ ap (λ l. field_width l == 4) lb ∙ seen_width w.keys1 in
+    let vs = ap (λ (v : Vector). field_width v.layout == 4) ec ∙ ap (λ l. field_width l == 4) lc ∙ seen_width w.values in
+    λ i. lists (keys0 i) (keys1 i) (vs i)
+formats_seen (Err x) w a b c ea eb ec la lb lc = tt
+
 -- what reading the parts of an image gives
 module _ (image : List ℕ) (w : WideLists) (p : Parts) (bytes : IsBytes image) (e : Some (w, p) ≡ unformed image) where
   pub parsed_stands : (r : Result Map2d EditError) → result_err r ≡ read_fault (texts_in w) p → IfOk r (λ m. m.rows ≡ rows_read (texts_in w) p) →
@@ -80,15 +103,15 @@ module _ (image : List ℕ) (w : WideLists) (p : Parts) (bytes : IsBytes image) 
 
   pub parsed_formed : (r : Result Map2d EditError) → IfOk r (λ m. parts_of m ≡ p) → IfOk r (λ m. lists_of m ≡ w) →
       IfOk r (λ m. IsFormed image (lists_of m) (parts_of m))
-  parsed_formed (Ok m) parts lists = rw (parts, lists) (formed-unformed image w p bytes (sym e)).0
-  parsed_formed (Err x) parts lists = tt
+  parsed_formed (Ok m) parts wides = formed_as image _ _ w p wides parts (formed-unformed image w p bytes (sym e)).0
+  parsed_formed (Err x) parts wides = tt
 
 -- a map whose lists are settled is written as its canonical image says
 written_settled : (xs : List Bytes) → encoding_in (flex_settled xs) xs ≡ enc (width (wide xs)) xs
-written_settled xs = elim (wide xs) as (λ b. encoding_in (if b then Index32 else Index16) xs ≡ enc (width b) xs) [ | true ↦ refl | false ↦ refl ]
+written_settled xs = elim (wide xs) as (λ b. encoding_in (if b then Index32 else Index16) xs ≡ enc (width b) xs) [ true ↦ refl | false ↦ refl ]
 
 wide_settled : (xs : List Bytes) → (field_width (flex_settled xs) == 4) ≡ wide xs
-wide_settled xs = elim (wide xs) as (λ b. (field_width (if b then Index32 else Index16) == 4) ≡ b) [ | true ↦ refl | false ↦ refl ]
+wide_settled xs = elim (wide xs) as (λ b. (field_width (if b then Index32 else Index16) == 4) ≡ b) [ true ↦ refl | false ↦ refl ]
 
 pub settled_parts : (m : Map2d) → AreSettled flex_settled flex_settled flex_settled m → written_of m ≡ spelling_in (wides_of m.rows) m.rows
 settled_parts m h =

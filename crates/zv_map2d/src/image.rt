@@ -21,8 +21,7 @@ use zv_ule::{SliceULE, StrULE, VarULE};
 use zv_var::frame::take_part;
 
 /// The map that an image stands for: from two texts to bytes.
-pub type ImageMap<'a> =
-    ZeroMap2d<'a, FlexULE<StrULE>, FlexULE<StrULE>, FlexULE<SliceULE<u8>>>;
+pub type ImageMap<'a> = ZeroMap2d<'a, FlexULE<StrULE>, FlexULE<StrULE>, FlexULE<SliceULE<u8>>>;
 
 /// Which lists of a map are wide, that is, have fields of four bytes and not of two.
 #[derive(Clone, Copy, Debug, PartialEq, Eq)]
