@@ -1,5 +1,5 @@
-// Wide images of one row of many pairs: of 10 MB of text, and of more pairs than fields of two bytes
-// can count. An unproved run needs over a minute to read the first byte by byte.
+// Wide images of one row of many pairs: of 10 MB of text, and of more pairs than two bytes can
+// count. An unproved run needs over a minute to read the first byte by byte.
 use crate::long_inputs::{Part, text_of};
 use crate::runs::{answer_of, memory_devices, words_of};
 use std::alloc::Global;
