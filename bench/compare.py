@@ -4,8 +4,8 @@
     bench/compare.py [SECONDS] [SEED]
 
 Build the program first (`./zv --prove`). Half of the images are those of a map, and the
-others are changed at random; half of the inputs have values and keys at the edges of the size rule. An input
-that is answered otherwise is written to `differs.txt` in the working folder.
+others are changed at random; half of the inputs have values and keys at the lengths from which a list is wide.
+An input that is answered otherwise is written to `differs.txt` in the working folder.
 """
 import collections
 import os
@@ -54,8 +54,12 @@ class Inputs:
             return data + self.random.randbytes(self.random.randrange(1, 5))
         data = bytearray(data)
         for _ in range(self.random.randrange(1, 3) if data else 0):
-            data[self.random.randrange(len(data))] = self.random.choice([0, 1, 2, 3, 128, 255])
+            data[self.random.randrange(len(data))] = self.random.choice([0, 1, 2, 3, 16, 32, 128, 255])
         return bytes(data)
+
+    def widths(self, lists):
+        """The widths of fields for lists: as each needs, or any."""
+        return [self.random.choice([2, 4]) if self.chance(0.2) else model.needs(elements) for elements in lists]
 
     def image(self):
         rows = {}
@@ -64,18 +68,22 @@ class Inputs:
                 value = self.value() if self.chance(0.2) else self.random.randbytes(self.random.randrange(6))
                 rows.setdefault(self.key(), {})[self.key()] = value
         keys0, ends, keys1, values = model.lists(rows)
-        kind = self.random.choice(["map"] * 5 + ["image", "part", "joiner", "order", "text"])
+        kind = self.random.choice(["map"] * 5 + ["image", "head", "part", "joiner", "order", "text"])
         if kind == "joiner":
             ends = [max(0, end + self.random.choice([0, 0, 1, -1])) for end in ends]
         if kind == "order":
             self.random.shuffle(self.random.choice([keys0, keys1]))
         if kind == "text" and keys1:
             keys1[self.random.randrange(len(keys1))] = self.random.choice([b"\xff", b"\xc3", b"\xed\xa0\x80"])
-        parts = model.parts(keys0, ends, keys1, values)
+        widths = self.widths((keys0, keys1, values))
+        parts = model.parts(keys0, ends, keys1, values, widths)
         if kind == "part":
             at = self.random.randrange(4)
             parts[at] = self.random.choice([b"\0\0\7", self.changed(parts[at])])
-        image = model.framed(parts)
+        has_head = 4 in widths or self.chance(0.1)
+        image = (model.head(widths) if has_head else b"") + model.framed(parts)
+        if kind == "head":
+            image = self.changed(image[:20]) + image[20:]
         return self.changed(image) if kind == "image" else image
 
     def command(self):

@@ -1,42 +1,43 @@
 """A model of `zv edit` in Python, written from docs/FORMATS.md and apart from the program: see compare.py."""
 import re
 
-MOST = 65_535  # what a field of two bytes holds
+MOST_NARROW = 65_535  # the most bytes of a list with fields of two bytes
+MOST = 4_294_967_295  # and of one with fields of four
 MOST_INPUT = 16_777_216
-WIDTH = 2
+MARK = b"\xff" * 8  # what a head begins with
+WIDTHS = {16: 2, 32: 4}  # the bytes of a field, by what a head names
 
 
 class Refused(Exception):
     """The word for the first cause for which an image is refused."""
 
 
-def encoded(elements):
+def encoded(elements, width):
     """A list of elements of any length: count, starts but for the first, bytes."""
     if not elements:
         return b""
-    out, start = len(elements).to_bytes(WIDTH, "little"), 0
+    fields, start = [len(elements)], 0
     for element in elements[:-1]:
         start += len(element)
-        out += start.to_bytes(WIDTH, "little")
-    return out + b"".join(elements)
+        fields.append(start)
+    return b"".join(field.to_bytes(width, "little") for field in fields) + b"".join(elements)
 
 
-def decoded(part, is_valid):
-    """The list that a part spells."""
+def decoded(part, width, is_valid):
+    """The list that a part spells, with fields of so many bytes."""
     if not part:
         return []
-    if len(part) < WIDTH:
+    if len(part) < width:
         raise Refused("parse")
-    fields = [int.from_bytes(part[i : i + WIDTH], "little") for i in range(0, len(part) - 1, WIDTH)]
-    count = fields[0]
+    count = int.from_bytes(part[:width], "little")
     if count == 0:
         return []
-    data = part[WIDTH * count :]
-    ends = fields[1:count] + [len(data)]
-    if len(part) < WIDTH * count:
+    if len(part) < width * count:
         raise Refused("parse")
+    data = part[width * count :]
+    starts = [int.from_bytes(part[width * i : width * i + width], "little") for i in range(1, count)]
     elements = []
-    for start, end in zip([0] + ends, ends):
+    for start, end in zip([0] + starts, starts + [len(data)]):
         if not start <= end <= len(data) or not is_valid(data[start:end]):
             raise Refused("parse")
         elements.append(data[start:end])
@@ -55,17 +56,27 @@ def framed(parts):
     return b"".join(len(part).to_bytes(8, "little") + part for part in parts)
 
 
-def unframed(image):
+def unframed(frame):
     parts, at = [], 0
     for _ in range(4):
-        length = int.from_bytes(image[at : at + 8], "little")
-        if len(image) < at + 8 or len(image) < at + 8 + length:
+        length = int.from_bytes(frame[at : at + 8], "little")
+        if len(frame) < at + 8 or len(frame) < at + 8 + length:
             raise Refused("frame")
-        parts.append(image[at + 8 : at + 8 + length])
+        parts.append(frame[at + 8 : at + 8 + length])
         at += 8 + length
-    if at != len(image):
+    if at != len(frame):
         raise Refused("frame")
     return parts
+
+
+def formats(image):
+    """The widths of the three lists, and the frame behind the head."""
+    if not image.startswith(MARK):
+        return [2, 2, 2], image
+    names = image[8:11]
+    if len(names) < 3 or any(name not in WIDTHS for name in names):
+        raise Refused("frame")
+    return [WIDTHS[name] for name in names], image[11:]
 
 
 def ascends(numbers_or_keys):
@@ -74,10 +85,12 @@ def ascends(numbers_or_keys):
 
 def parsed(image):
     """The map of an image, as a dict of dicts, or the cause for which it is refused."""
-    keys0, joiner, keys1, values = unframed(image)
+    (width0, width1, width2), frame = formats(image)
+    keys0, joiner, keys1, values = unframed(frame)
     if len(joiner) % 4:
         raise Refused("length")
-    keys0, keys1, values = decoded(keys0, is_text), decoded(keys1, is_text), decoded(values, lambda _: True)
+    keys0, keys1 = decoded(keys0, width0, is_text), decoded(keys1, width1, is_text)
+    values = decoded(values, width2, lambda _: True)
     ends = [int.from_bytes(joiner[i : i + 4], "little") for i in range(0, len(joiner), 4)]
     if len(keys0) != len(ends):
         raise Refused("keys0joiner")
@@ -101,20 +114,39 @@ def lists(rows):
     return keys0, ends, [key for row in pairs for key, _ in row], [value for row in pairs for _, value in row]
 
 
-def parts(keys0, ends, keys1, values):
-    return [encoded(keys0), b"".join(end.to_bytes(4, "little") for end in ends), encoded(keys1), encoded(values)]
+def size(elements, width):
+    return width * len(elements) + sum(map(len, elements))
 
 
-def size(elements):
-    return WIDTH * len(elements) + sum(map(len, elements))
+def needs(elements):
+    """The width of the fields that a list needs."""
+    return 4 if elements and size(elements, 2) > MOST_NARROW else 2
+
+
+def parts(keys0, ends, keys1, values, widths):
+    """The four parts of a map whose lists have fields of these widths."""
+    width0, width1, width2 = widths
+    joiner = b"".join(end.to_bytes(4, "little") for end in ends)
+    return [encoded(keys0, width0), joiner, encoded(keys1, width1), encoded(values, width2)]
+
+
+def head(widths):
+    return MARK + bytes(8 * width for width in widths)
+
+
+def canonical(rows):
+    """The one image that a map is written as: with a head where a list is wide."""
+    keys0, ends, keys1, values = lists(rows)
+    widths = [needs(elements) for elements in (keys0, keys1, values)]
+    return (head(widths) if 4 in widths else b"") + framed(parts(keys0, ends, keys1, values, widths))
 
 
 def takes(elements, length):
-    return length < MOST and (not elements or size(elements) + length + WIDTH <= MOST)
+    return length < MOST and (not elements or size(elements, 4) + length + 4 <= MOST)
 
 
 def takes_instead(elements, old, length):
-    return length < MOST and (length <= old or size(elements) + length - old <= MOST)
+    return length < MOST and (length <= old or size(elements, 4) + length - old <= MOST)
 
 
 def fits(rows, key0, key1, value):
@@ -194,5 +226,5 @@ def edit(text):
     except Refused as cause:
         return b"error %s\n" % str(cause).encode(), 5
     replies = [reply(rows, *command) for command in commands]
-    replies.append(b"image " + spelled(framed(parts(*lists(rows)))))
+    replies.append(b"image " + spelled(canonical(rows)))
     return b"\n".join(replies) + b"\n", 0

@@ -14,60 +14,33 @@ import subprocess
 import sys
 import tempfile
 
+from model import canonical, spelled
+
 TOP = os.path.dirname(os.path.dirname(os.path.abspath(__file__)))
 # A child begins with the peak memory of the process that it was forked from, so a small one measures.
 TIME = "/usr/bin/time"
 PROGRAM = os.path.join(TOP, "crates", "zv", "out", "zv")
 
 
-def variable(elements):
-    """A list of elements of any length, with fields of two bytes."""
-    if not elements:
-        return b""
-    out = struct.pack("<H", len(elements))
-    start = 0
-    for element in elements[:-1]:
-        start += len(element)
-        out += struct.pack("<H", start)
-    return out + b"".join(elements)
-
-
-def image(table):
-    """The image of a map of maps."""
-    firsts, ends, seconds, values = sorted(table), [], [], []
-    for first in firsts:
-        for second in sorted(table[first]):
-            seconds.append(second)
-            values.append(table[first][second])
-        ends.append(len(seconds))
-    joiner = b"".join(struct.pack("<I", end) for end in ends)
-    parts = [variable(firsts), joiner, variable(seconds), variable(values)]
-    return b"".join(struct.pack("<Q", len(part)) + part for part in parts)
-
-
-def field(data):
-    return b"x" + data.hex().encode()
-
-
 def gets(table, size):
     """An image and `get` lines up to about `size` bytes; every fourth pair is not there."""
-    out = field(image(table)) + b"\n"
+    out = spelled(canonical(table)) + b"\n"
     lines = []
     for first in sorted(table):
         for second in sorted(table[first]):
-            lines.append(b"get " + field(first) + b" " + field(second) + b"\n")
+            lines.append(b"get " + spelled(first) + b" " + spelled(second) + b"\n")
             if len(lines) % 4 == 3:
-                lines.append(b"get " + field(first) + b" " + field(b"Zzzz") + b"\n")
+                lines.append(b"get " + spelled(first) + b" " + spelled(b"Zzzz") + b"\n")
     block = b"".join(lines)
     return out + block * max(1, (size - len(out)) // len(block))
 
 
 def puts(size):
-    """The empty image and `put` lines of new pairs up to about `size` bytes: the lists fill, and then refuse."""
-    out, number, total = [field(image({})) + b"\n"], 0, 0
+    """The empty image and `put` lines of new pairs up to about `size` bytes: the lists grow, and become wide."""
+    out, number, total = [spelled(canonical({})) + b"\n"], 0, 0
     while total < size:
         first, second = b"r%d" % (number % 64), b"k%d" % number
-        out.append(b"put " + field(first) + b" " + field(second) + b" " + field(struct.pack("<H", number % 65536)) + b"\n")
+        out.append(b"put " + spelled(first) + b" " + spelled(second) + b" " + spelled(struct.pack("<H", number % 65536)) + b"\n")
         total += len(out[-1])
         number += 1
     return b"".join(out)
@@ -75,12 +48,12 @@ def puts(size):
 
 def mixed(table, size):
     """An image and lines that look up, replace, remove, put again and list rows, up to about `size` bytes."""
-    out, pairs = [field(image(table)) + b"\n"], [(a, b) for a in sorted(table) for b in sorted(table[a])]
+    out, pairs = [spelled(canonical(table)) + b"\n"], [(a, b) for a in sorted(table) for b in sorted(table[a])]
     total, number = len(out[0]), 0
     while total < size:
         first, second = pairs[number * 7919 % len(pairs)]
-        keys = field(first) + b" " + field(second)
-        block = [b"get " + keys, b"put " + keys + b" " + field(b"GB"), b"del " + keys, b"row " + field(first), b"put " + keys + b" " + field(b"US")]
+        keys = spelled(first) + b" " + spelled(second)
+        block = [b"get " + keys, b"put " + keys + b" " + spelled(b"GB"), b"del " + keys, b"row " + spelled(first), b"put " + keys + b" " + spelled(b"US")]
         out.append(b"\n".join(block) + b"\n")
         total += len(out[-1])
         number += 1
@@ -115,16 +88,19 @@ def main():
     small = {b"a": {b"b": b"\x01"}}
     scripts = [b"Arab", b"Cyrl", b"Deva", b"Hans", b"Hant", b"Khoj", b"Latn"]
     locales = {b"%c%c" % (97 + i // 26, 97 + i % 26): {s: b"US" for s in scripts} for i in range(400)}
+    territories = {b"l%03d" % i: {b"%c%c" % (65 + j // 26, 65 + j % 26): b"name of %d" % j for j in range(250)} for i in range(150)}
     long = {b"a": {b"b": b"\x07" * 4_000_000}}
     inputs = [
         ("1 MB of get lines, one pair", gets(small, 1_000_000)),
         ("15 MB of get lines, one pair", gets(small, 15_000_000)),
         ("1 MB of get lines, 2800 pairs", gets(locales, 1_000_000)),
         ("15 MB of get lines, 2800 pairs", gets(locales, 15_000_000)),
-        ("a value of 4,000,000 bytes, no lines", field(image(long)) + b"\n"),
+        ("15 MB of get lines, 37,500 pairs", gets(territories, 15_000_000)),
+        ("a value of 4,000,000 bytes, no lines", spelled(canonical(long)) + b"\n"),
         ("1 MB of put lines, from the empty map", puts(1_000_000)),
         ("1 MB of get, put, del, row, 2800 pairs", mixed(locales, 1_000_000)),
         ("100 KB of get, put, del, row, 2800 pairs", mixed(locales, 100_000)),
+        ("3 MB of get, put, del, row, 37,500 pairs", mixed(territories, 3_000_000)),
     ]
     print(f"{'input':40} {'bytes':>10} {'processor':>10} {'peak':>10} {'peak/input':>10}")
     for name, data in inputs:

@@ -7,8 +7,7 @@
 
 A line of a table is a first key, a second key and a value, with a tab between them. Keys and values
 are texts in UTF-8 here; `zv` takes any bytes as a value. docs/FORMATS.md describes the image.
-Given the input that the output answers, `show` begins with each pair that was looked up, found or not,
-and each that was too large to be put.
+Given the input that the output answers, `show` begins with each pair that was looked up, found or not.
 
     examples/table.py put examples/regions.tsv | examples/table.py get sd Khoj > input
     ./zv edit < input | examples/table.py show input
@@ -18,6 +17,8 @@ import struct
 import sys
 
 EMPTY_IMAGE = bytes(32)
+MARK = b"\xff" * 8  # what a head begins with
+FIELDS = {16: "H", 32: "I"}  # a field of a list, by the number of its bits
 
 
 def field(data):
@@ -57,32 +58,51 @@ def get(keys):
         yield f"get {field(key0.encode())} {field(key1.encode())}"
 
 
-def parts(image):
-    """The four parts of an image, each after its length as eight bytes."""
+def formats(image):
+    """What a field is in the first keys, the second keys and the values, and the frame behind the head."""
+    if not image.startswith(MARK):
+        return ["H"] * 3, image
+    return [FIELDS[bits] for bits in image[8:11]], image[11:]
+
+
+def parts(frame):
+    """The four parts of a frame, each after its length as eight bytes."""
     place = 0
     for _ in range(4):
-        (length,) = struct.unpack_from("<Q", image, place)
-        yield image[place + 8:place + 8 + length]
+        (length,) = struct.unpack_from("<Q", frame, place)
+        yield frame[place + 8:place + 8 + length]
         place += 8 + length
 
 
-def elements(part):
-    """The elements of a list in Index16: the count, the start of each but the first, their bytes."""
+def elements(field, part):
+    """The elements of a list: its count, the start of each but the first, their bytes."""
     if not part:
         return []
-    (count,) = struct.unpack_from("<H", part)
-    data = part[2 * count:]
-    starts = (0, *struct.unpack_from(f"<{count - 1}H", part, 2), len(data))
+    width = struct.calcsize(field)
+    (count,) = struct.unpack_from("<" + field, part)
+    data = part[width * count:]
+    starts = (0, *struct.unpack_from(f"<{count - 1}{field}", part, width), len(data))
     return [text(data[start:end]) for start, end in zip(starts, starts[1:])]
 
 
+def triples(image):
+    """The first key, the second key and the value of each pair."""
+    fields, frame = formats(image)
+    keys0, joiner, keys1, values = parts(frame)
+    keys0, keys1, values = map(elements, fields, (keys0, keys1, values))
+    ends = struct.unpack(f"<{len(joiner) // 4}I", joiner)
+    for key0, start, end in zip(keys0, (0, *ends), ends):
+        for key1, value in zip(keys1[start:end], values[start:end]):
+            yield key0, key1, value
+
+
 def answered(commands, replies):
-    """What was looked up, and what was too large."""
+    """What was looked up, and found or not."""
     if len(commands) != len(replies):
         raise ValueError(f"{len(commands)} commands and {len(replies)} replies")
     for command, reply in zip(commands, replies):
         (name, *fields), (kind, *values) = command.split(" "), reply.split(" ")
-        if name == "get" or kind == "toolarge":
+        if name == "get":
             yield "\t".join(("# " + kind, *map(text, fields[:2] + values)))
 
 
@@ -92,12 +112,7 @@ def show(path):
         raise ValueError(last)
     if path:
         yield from answered(lines_of(path)[1:], replies)
-    keys0, joiner, keys1, values = parts(bytes.fromhex(last[len("image x"):]))
-    ends = struct.unpack(f"<{len(joiner) // 4}I", joiner)
-    pairs = list(zip(elements(keys1), elements(values)))
-    for key0, start, end in zip(elements(keys0), (0, *ends), ends):
-        for key1, value in pairs[start:end]:
-            yield "\t".join((key0, key1, value))
+    yield from map("\t".join, triples(bytes.fromhex(last[len("image x"):])))
 
 
 def main(words):
@@ -115,7 +130,7 @@ def main(words):
     # Nothing is written before everything is read.
     try:
         print(*list(lines), sep="\n", flush=True)
-    except (OSError, ValueError, struct.error) as error:
+    except (OSError, ValueError, KeyError, struct.error) as error:
         # What is left to be written would be tried again at the end.
         os.dup2(os.open(os.devnull, os.O_WRONLY), 1)
         sys.exit(f"examples/table.py: {error}")

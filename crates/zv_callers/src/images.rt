@@ -2,18 +2,19 @@
 // and written as the parts of another image.
 ghost use Rattle.std.specs.Prelude.{◌≡◌, ◌+◌, IfErr, IfOk, OnErr, OnOk, length};
 ghost use Rattle.std.specs.Result.{result_err};
-ghost use Rattle.zv_map2d.specs.Image.{Stands, by_bytes, fault, spelling};
-ghost use Rattle.zv_map2d.specs.Room.{HasRoomFor, IsOwned, SpendsFor};
+ghost use Rattle.zv_map2d.specs.Image.{Stands, by_bytes, fault, spelling_in, wides_of};
+ghost use Rattle.zv_map2d.specs.Room.{HasRoomFor, IsOwned, IsReady, SpendsFor};
 ghost use Rattle.zv_map2d.specs.Rows.{Rows};
 ghost use Rattle.zv_map2d.specs.Views.{bytes_of};
 ghost use Rattle.zv_callers.specs.Images.{changed, with_entry, without};
 
 use std::alloc::Global;
-use zv_map2d::{EditError, Map2dError, Parts, ZeroMap2d, parse_image};
-use zv_ule::{SliceULE, StrULE, VarRef};
+use zv_map::FlexULE;
+use zv_map2d::{EditError, ImageMap, Map2dError, Parts, parse_image};
+use zv_ule::VarRef;
 
 /// A table from a language and a script to bytes, as an image stores it.
-pub type StoredTable<'a> = ZeroMap2d<'a, StrULE, StrULE, SliceULE<u8>>;
+pub type StoredTable<'a> = ImageMap<'a>;
 
 /// A language and a script.
 #[derive(Clone, Copy)]
@@ -37,7 +38,7 @@ fn reserve_for_two(
     second: Entry<'_>,
 ) -> Result<(), Map2dError>
     ensures rows { table.new.rows ≡ table.old.rows }
-    ensures room { OnOk result (HasRoomFor 2 2 2
+    ensures room { OnOk result (HasRoomFor 4 4 4
         (length first.entry.keys.language.now + length second.entry.keys.language.now)
         (length first.entry.keys.script.now + length second.entry.keys.script.now)
         (length first.entry.value.now + length second.entry.value.now) 2 table.new) }
@@ -55,18 +56,19 @@ fn reserve_for_two(
 ///
 /// # Errors
 /// `TooLarge` where the value does not fit. The table is unchanged then.
-#[tactic(auto, using(zv_map2d::proofs::Rooms::owned_after))]
+#[tactic(auto, using(zv_map2d::proofs::Rooms::owned_after, zv_map2d::proofs::Rooms::ready_after))]
 pub fn put_entry(table: &mut StoredTable<'_>, item: Entry<'_>) -> Result<(), Map2dError>
-    requires room { HasRoomFor 2 2 2 (length item.keys.language.now)
+    requires room { HasRoomFor 4 4 4 (length item.keys.language.now)
         (length item.keys.script.now) (length item.value.now) 1 table.old }
     ensures rows { OnOk result (table.new.rows ≡ with_entry table.old.rows item.entry) }
     ensures err { OnErr result (table.new ≡ table.old) }
     ensures refused { IfErr result (λ e. e ≡ Map2dError.TooLarge) }
-    ensures spends { SpendsFor 2 2 2 (length item.entry.keys.language.now)
+    ensures spends { SpendsFor 4 4 4 (length item.entry.keys.language.now)
         (length item.entry.keys.script.now) (length item.entry.value.now) 1 table.old table.new }
     ensures owned { IsOwned table.new }
+    ensures ready { IsReady table.new }
 {
-    let value = VarRef::of_bytes(item.value);
+    let value = FlexULE::of_plain(VarRef::of_bytes(item.value));
     match table.put_reserved(&item.keys.language, &item.keys.script, &value) {
         Ok(_) => Ok(()),
         Err(_) => Err(Map2dError::TooLarge),
@@ -74,11 +76,12 @@ pub fn put_entry(table: &mut StoredTable<'_>, item: Entry<'_>) -> Result<(), Map
 }
 
 /// Takes a language in a script out, if it is there. It takes no memory.
-#[tactic(auto, using(zv_map2d::proofs::Rooms::owned_after))]
+#[tactic(auto, using(zv_map2d::proofs::Rooms::owned_after, zv_map2d::proofs::Rooms::ready_after))]
 pub fn discard_keys(table: &mut StoredTable<'_>, keys: Keys<'_>)
     requires { IsOwned table.old }
     ensures rows { table.new.rows ≡ without table.old.rows keys.entry }
     ensures owned { IsOwned table.new }
+    ensures ready { IsReady table.old → IsReady table.new }
 {
     table.discard(&keys.language, &keys.script);
 }
@@ -90,13 +93,14 @@ fn put_both(
     first: Entry<'_>,
     second: Entry<'_>,
 ) -> Result<(), Map2dError>
-    requires room { HasRoomFor 2 2 2
+    requires room { HasRoomFor 4 4 4
         (length first.keys.language.now + length second.keys.language.now)
         (length first.keys.script.now + length second.keys.script.now)
         (length first.value.now + length second.value.now) 2 table.old }
     ensures rows { OnOk result
         (table.new.rows ≡ with_entry (with_entry table.old.rows first.entry) second.entry) }
     ensures owned { OnOk result (IsOwned table.new) }
+    ensures ready { OnOk result (IsReady table.new) }
     ensures refused { IfErr result (λ e. e ≡ Map2dError.TooLarge) }
 {
     put_entry(table, first)?;
@@ -117,6 +121,7 @@ pub fn change_table(
 ) -> Result<(), Map2dError>
     ensures rows { OnOk result
         (table.new.rows ≡ changed table.old.rows puts.entry discards.entry) }
+    ensures ready { OnOk result (IsReady table.new) }
     ensures untouched { IfErr result (λ e. (e ≡ Map2dError.TooLarge → ⊥) →
         table.new.rows ≡ table.old.rows) }
 {
@@ -141,6 +146,7 @@ pub fn change_image<'a>(
     ensures rows { IfOk result (λ outcome. IfOk outcome (λ table. (m : Rows)
         × Stands image.now m
         × (table.rows ≡ changed m puts.entry discards.entry))) }
+    ensures ready { IfOk result (λ outcome. IfOk outcome IsReady) }
 {
     let mut table = parse_image(image)?;
     match change_table(alloc, &mut table, puts, discards) {
@@ -149,9 +155,12 @@ pub fn change_image<'a>(
     }
 }
 
-/// The parts of the image that the table is stored as, which lie in the table's own bytes.
-pub fn stored_parts<'t>(table: &'t StoredTable<'_>) -> Parts<'t>
-    ensures { bytes_of result ≡ spelling table.now.rows }
+/// The parts of the image that the table is stored as, which lie in the table's own bytes. Its
+/// lists are put into the formats that they need.
+pub fn stored_parts<'t>(table: &'t mut StoredTable<'_>) -> Parts<'t>
+    requires { IsReady table.old }
+    ensures { bytes_of result ≡ spelling_in (wides_of table.old.rows) table.old.rows }
 {
+    table.settle();
     table.canon_parts()
 }

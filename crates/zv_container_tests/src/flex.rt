@@ -70,22 +70,110 @@ fn a_long_element_makes_a_list_wide_once_it_is_settled(rt: HostRuntime) -> Resul
     Ok(())
 }
 
-// A list of an element of 65,000 bytes gets a second one.
-fn grows(rt: &impl Abort, alloc: Global, count: usize, wide: bool, len: usize) -> Result<(), Fail> {
+// A list of so many letters and 65,000 more. Narrow, it has 65,535 bytes where there are 531.
+fn two_texts<'a>(rt: &impl Abort, alloc: Global, count: usize) -> Result<Texts<'a>, Fail> {
     let mut list = Texts::<'_>::new();
     insert_first(rt, alloc, &mut list, &letters(alloc, 65_000)?)?;
     insert_first(rt, alloc, &mut list, &letters(alloc, count)?)?;
-    has_form(rt, &list, wide, len);
-    settle(rt, &mut list);
-    has_form(rt, &list, wide, len);
-    Ok(())
+    Ok(list)
+}
+
+// A list gets this form as it is settled.
+fn settles(rt: &impl Abort, list: &mut Texts<'_>, wide: bool, len: usize) {
+    settle(rt, list);
+    has_form(rt, list, wide, len);
 }
 
 #[test]
 fn a_list_widens_as_it_grows(rt: HostRuntime) -> Result<(), Fail> {
     let alloc = rt.alloc();
-    grows(&rt, alloc, 531, false, 65_535)?;
-    grows(&rt, alloc, 532, true, 65_540)
+    for (count, wide, len) in [(531, false, 65_535), (532, true, 65_540)] {
+        let mut list = two_texts(&rt, alloc, count)?;
+        has_form(&rt, &list, wide, len);
+        settles(&rt, &mut list, wide, len);
+    }
+    Ok(())
+}
+
+// The first text of a list gives way to one of so many letters.
+fn replace_first(
+    rt: &impl Abort,
+    alloc: Global,
+    list: &mut Texts<'_>,
+    count: usize,
+) -> Result<(), Fail> {
+    let text = letters(alloc, count)?;
+    assert!(rt; 0 < list.len());
+    list.zvl_replace(alloc, 0, &text)?;
+    Ok(())
+}
+
+#[test]
+fn a_narrow_list_widens_as_an_element_grows(rt: HostRuntime) -> Result<(), Fail> {
+    let alloc = rt.alloc();
+    for (count, wide, len) in [(531, false, 65_535), (532, true, 65_540)] {
+        let mut list = two_texts(&rt, alloc, 10)?;
+        replace_first(&rt, alloc, &mut list, count)?;
+        has_form(&rt, &list, wide, len);
+        settles(&rt, &mut list, wide, len);
+    }
+    Ok(())
+}
+
+#[test]
+fn a_wide_list_is_wide_until_it_is_settled(rt: HostRuntime) -> Result<(), Fail> {
+    let alloc = rt.alloc();
+    for (count, len, wide, settled) in [(531, 65_539, false, 65_535), (532, 65_540, true, 65_540)] {
+        let mut list = two_texts(&rt, alloc, 600)?;
+        replace_first(&rt, alloc, &mut list, count)?;
+        has_form(&rt, &list, true, len);
+        settles(&rt, &mut list, wide, settled);
+        let mut list = two_texts(&rt, alloc, count)?;
+        insert_first(&rt, alloc, &mut list, "a")?;
+        remove(&rt, alloc, &mut list, 0)?;
+        has_form(&rt, &list, true, len);
+        settles(&rt, &mut list, wide, settled);
+    }
+    Ok(())
+}
+
+// The fields of a list of 65,000 letters and more, and its texts.
+fn spelling(alloc: Global, fields: &[u8], count: usize) -> Result<Vec<u8>, Fail> {
+    let mut bytes = Vec::from_slice(alloc, fields)?;
+    bytes.resize(
+        fields.len().saturating_add(65_000).saturating_add(count),
+        b'a',
+    )?;
+    Ok(bytes)
+}
+
+// A list of both texts is read in a form, and settled.
+fn is_settled(
+    rt: &impl Abort,
+    alloc: Global,
+    wide: bool,
+    bytes: &[u8],
+    settled: (bool, usize),
+) -> Result<(), Fail> {
+    let mut list = Texts::<'_>::parse_bytes(wide, bytes)?;
+    assert!(rt; list.len() == 2 && !list.is_roomy());
+    list.zvl_reserve_bytes(alloc, 0)?;
+    has_form(rt, &list, wide, bytes.len());
+    let (wide, len) = settled;
+    settles(rt, &mut list, wide, len);
+    Ok(())
+}
+
+#[test]
+fn a_list_settles_from_both_forms(rt: HostRuntime) -> Result<(), Fail> {
+    let alloc = rt.alloc();
+    for (count, settled) in [(531, (false, 65_535)), (532, (true, 65_540))] {
+        let narrow = spelling(alloc, &[2, 0, 0xe8, 0xfd], count)?;
+        is_settled(&rt, alloc, false, &narrow, settled)?;
+        let wide = spelling(alloc, &[2, 0, 0, 0, 0xe8, 0xfd, 0, 0], count)?;
+        is_settled(&rt, alloc, true, &wide, settled)?;
+    }
+    Ok(())
 }
 
 #[test]

@@ -1,4 +1,6 @@
 // A table that is stored as an image, by the calls of its own crate.
+ghost use Rattle.zv_map2d.specs.Room.{IsReady};
+
 use std::alloc::Global;
 use std::process::Abort;
 use std::test::Fail;
@@ -41,7 +43,9 @@ fn changed(
 }
 
 // The table is written as "a" in "c" with 2 and 2, and "d" in "e" with 3.
-fn is_stored(rt: &impl Abort, table: &StoredTable<'_>) {
+fn is_stored(rt: &impl Abort, table: &mut StoredTable<'_>)
+    requires { IsReady table.old }
+{
     let parts = stored_parts(table);
     assert!(rt; parts.keys0 == b"\x02\0\x01\0ad".as_slice());
     assert!(rt; parts.joiner == b"\x01\0\0\0\x02\0\0\0".as_slice());
@@ -52,21 +56,36 @@ fn is_stored(rt: &impl Abort, table: &StoredTable<'_>) {
 #[test]
 fn an_image_is_changed(rt: HostRuntime) -> Result<(), Fail> {
     match changed(rt.alloc(), ONE_PAIR, &[3])? {
-        Ok(table) => is_stored(&rt, &table),
+        Ok(mut table) => is_stored(&rt, &mut table),
         Err(_) => panic!(rt; "there is room"),
     }
     Ok(())
 }
 
 #[test]
-fn an_image_is_not_changed(rt: HostRuntime) -> Result<(), Fail> {
+fn a_bad_image_is_not_changed(rt: HostRuntime) -> Result<(), Fail> {
+    assert!(rt; changed(rt.alloc(), b"\0", &[3]).err() == Some(EditError::Frame));
+    Ok(())
+}
+
+// Its values are 2 and 2, and this one: with fields of two bytes they would be too long.
+#[test]
+fn a_long_value_makes_a_list_wide(rt: HostRuntime) -> Result<(), Fail> {
     let alloc = rt.alloc();
-    assert!(rt; changed(alloc, b"\0", &[3]).err() == Some(EditError::Frame));
     let mut long = Vec::new(alloc);
-    long.resize(65_535, 0)?;
+    long.resize(65_530, 3)?;
     match changed(alloc, ONE_PAIR, &long)? {
-        Ok(_) => panic!(rt; "the value is too large"),
-        Err(error) => assert!(rt; error == Map2dError::TooLarge),
+        Ok(mut table) => {
+            let parts = stored_parts(&mut table);
+            assert!(rt; parts.keys1 == b"\x02\0\x01\0ce".as_slice());
+            assert!(rt; parts.values.len() == 65_540);
+            assert!(rt;
+                parts
+                    .values
+                    .starts_with(b"\x02\0\0\0\x02\0\0\0\x02\x02\x03")
+            );
+        }
+        Err(_) => panic!(rt; "there is room"),
     }
     Ok(())
 }

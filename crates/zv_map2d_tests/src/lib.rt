@@ -10,6 +10,10 @@ mod look_ups;
 #[cfg(test)]
 mod maps;
 #[cfg(test)]
+mod narrow;
+#[cfg(test)]
 mod reads;
 #[cfg(test)]
 mod regions;
+#[cfg(test)]
+mod wide;

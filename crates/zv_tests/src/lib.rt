@@ -10,6 +10,10 @@ mod devices;
 #[cfg(test)]
 mod edit;
 #[cfg(test)]
+mod heads;
+#[cfg(test)]
+mod large;
+#[cfg(test)]
 mod long_inputs;
 #[cfg(test)]
 mod looks;

@@ -1,5 +1,6 @@
-use Rattle.zv_edit.proofs.Common.{◌≡◌, ◌++◌, ◌∙◌, List, ℕ, length, take_all, sym, ap, rules, arith, frame, canon, bytes_of, last, reply_lines, image_line}
-use Rattle.zv_map2d.proofs.Unframed.{texts_written}
+use Rattle.zv_edit.proofs.Common.{◌≡◌, ◌++◌, ◌∙◌, List, ℕ, refl, length, take_all, sym, ap, rules, arith, frame, canon, bytes_of, last, reply_lines, image_line}
+use Rattle.zv_map2d.proofs.Formed.{settled_lists, settled_parts}
+use Rattle.zv_map2d.specs.Formats.{head_of}
 use Rattle.zv_edit.proofs.Served.{at_err}
 use Rattle.zv_command.proofs.Sending.{sends_as, sends_then}
 use Rattle.zv_edit.proofs.serving.write_answer.Goals as goal
@@ -9,8 +10,11 @@ returns-clause-text g c =
     let m = c.args.map.now.rows in
     let cs = c.args.commands.now in
     let ran : c.run_commands.new.map.rows ≡ last m cs = search rules in
-    let written = c.canon_parts.ensures.written ∙ texts_written _ c.canon_parts.ensures.layouts in
-    let image : canon (last m cs) ≡ frame (bytes_of c.canon_parts.result) = ap canon (sym ran) ∙ ap frame (sym written) in
+    let layouts = c.settle.ensures.layouts in
+    let lists = c.wide_lists.ensures ∙ settled_lists _ layouts in
+    let parts = c.canon_parts.ensures.written ∙ settled_parts _ layouts in
+    let image : canon (last m cs) ≡ head_of c.wide_lists.result ++ frame (bytes_of c.canon_parts.result) =
+    ap canon (sym (c.settle.ensures.rows ∙ ran)) ∙ rw (lists, parts) refl in
     sends_as (ap (λ (i : List ℕ). reply_lines m cs ++ image_line i) image)
     (sends_then c.run_commands.ensures.text (search rules) c.write_image.ensures.text)
 
