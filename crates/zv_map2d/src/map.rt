@@ -255,7 +255,6 @@ impl<
     pub fn joiner(&self) -> ZeroSlice<'_, u32>
         ensures values { values_in result ≡ ends self.now.rows }
         ensures bytes { joiner_bytes result ≡ self.now.joiner.bytes }
-        ensures written { joiner_bytes result ≡ flat_map (le 4) (ends self.now.rows) }
     {
         self.joiner.as_slice()
     }
