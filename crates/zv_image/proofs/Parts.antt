@@ -14,3 +14,6 @@ in_two part = encode_lower_append (le 8 (length part)) part
 pub in_four : (p : Parts) → encode_lower (frame (bytes_of p)) ≡ encode_lower (framed p.keys0.now)
     ++ (encode_lower (framed p.joiner.now) ++ (encode_lower (framed p.keys1.now) ++ encode_lower (framed p.values.now)))
 in_four p = simp encode_lower_append
+
+pub after_head : (head frame : List ℕ) → encode_lower (head ++ frame) ≡ encode_lower head ++ encode_lower frame
+after_head head frame = encode_lower_append head frame

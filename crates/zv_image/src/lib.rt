@@ -8,6 +8,6 @@ mod refusal;
 mod room;
 
 pub use lines::write_image;
-pub use places::{discard, find_place, fits, put_fitting, value_at};
+pub use places::{discard, find_place, fits, plain, put_fitting, value_at};
 pub use refusal::refuse;
 pub use room::reserve;

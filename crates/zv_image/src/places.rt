@@ -10,8 +10,28 @@ ghost use Rattle.zv_image.specs.Room.{HasRoomOf, SpendsOf};
 ghost use Rattle.zv_input.specs.Sizes.{sizes_of};
 
 use zv_input::{Command, ValueBytes};
+use zv_map::FlexULE;
 use zv_map2d::{ImageMap, Place};
 use zv_ule::{SliceULE, VarRef};
+
+/// A value of an image's map, if there is one, as bytes.
+pub fn plain<'m>(
+    value: Option<VarRef<'m, FlexULE<SliceULE<u8>>>>,
+) -> Option<VarRef<'m, SliceULE<u8>>>
+    ensures { option_map element_of result ≡ option_map element_of value.entry }
+{
+    match value {
+        Some(value) => Some(FlexULE::plain(value)),
+        None => None,
+    }
+}
+
+/// A value as the map of an image takes it.
+fn value_for(value: &ValueBytes) -> VarRef<'_, FlexULE<SliceULE<u8>>>
+    ensures { element_of result ≡ value.now }
+{
+    FlexULE::of_plain(VarRef::of_bytes(value.as_bytes()))
+}
 
 /// Where a pair of keys is, or would be.
 pub fn find_place(map: &ImageMap<'_>, key0: &str, key1: &str) -> Place
@@ -30,7 +50,7 @@ pub fn value_at<'m>(
     requires { IsPlace by_bytes by_bytes map.now.rows key0.now key1.now place }
     ensures { option_map element_of result ≡ find by_bytes by_bytes map.now.rows key0.now key1.now }
 {
-    map.value_at(place, &key0, &key1)
+    plain(map.value_at(place, &key0, &key1))
 }
 
 /// Whether a value for a pair of keys fits at its place.
@@ -39,8 +59,7 @@ pub fn fits(map: &ImageMap<'_>, place: Place, key0: &str, key1: &str, value: &Va
     ensures { result ≡ fits_texts map.now.rows key0.now key1.now value.now }
 {
     map.in_order();
-    let value = VarRef::of_bytes(value.as_bytes());
-    map.takes_at(place, &key0, &key1, &value)
+    map.takes_at(place, &key0, &key1, &value_for(value))
 }
 
 /// Gives a pair of keys a value, which fits, at its place.
@@ -54,8 +73,7 @@ pub fn put_fitting(map: &mut ImageMap<'_>, place: Place, key0: &str, key1: &str,
         map.old map.new }
 {
     map.in_order();
-    let value = VarRef::of_bytes(value.as_bytes());
-    map.put_at(place, &key0, &key1, &value);
+    map.put_at(place, &key0, &key1, &value_for(value));
 }
 
 /// Takes a pair of keys out at its place.

@@ -1,5 +1,5 @@
 // Room for puts.
-ghost use Rattle.std.specs.Prelude.{◌≡◌, ◌≤◌, length, OnOk};
+ghost use Rattle.std.specs.Prelude.{◌≡◌, ◌^◌, ◌≤◌, length, OnOk};
 ghost use Rattle.zv_map2d.specs.Rows.{seconds};
 ghost use Rattle.zv_image.specs.Room.{HasRoomOf};
 ghost use Rattle.zv_input.specs.Sizes.{put_sizes};
@@ -12,7 +12,7 @@ use zv_ule::NoMemory;
 /// Makes the vectors of an image's map the map's own, with room for the puts among commands, so
 /// that no command takes memory.
 pub fn reserve(alloc: Global, map: &mut ImageMap<'_>, commands: &Commands) -> Result<(), NoMemory>
-    requires { length (seconds map.old.rows) ≤ 65535 }
+    requires { length (seconds map.old.rows) ≤ 2 ^ 30 }
     ensures rows { map.new.rows ≡ map.old.rows }
     ensures room { OnOk result (HasRoomOf (put_sizes commands.now) map.new) }
 {

@@ -1,5 +1,5 @@
 -- Images: from the bytes to the formats and the parts that they are formed of.
-use Rattle.zv_map2d.proofs.Common.{◌≡◌, ℕ, Bool, List, [], ◌∷◌, ◌++◌, take, drop, Option, Some, None, inl, inr, refl, sym, ◌∙◌, ap, arith, same_Some}
+use Rattle.zv_map2d.proofs.Common.{◌≡◌, ℕ, Bool, List, [], ◌∷◌, take, drop, Option, Some, None, inl, inr, refl, sym, ◌∙◌, ap, arith, same_Some}
 use Rattle.zv_map2d.proofs.Common.{option_and_then_some}
 use Rattle.zv_map2d.proofs.Common.{option_map, take-append-drop, IsBytes}
 use Rattle.std.proofs.lemmas.Bool.{cases_Bool}
@@ -8,7 +8,7 @@ use Rattle.std.proofs.lemmas.Slice.Eq.{bytes_eq-Decides}
 use Rattle.std.specs.Prelude.{bytes_eq}
 use Rattle.zv_ule.proofs.Lists.{back_bytes}
 use Rattle.zv_ule.specs.laws.Fields.{later_bytes}
-use Rattle.zv_map2d.specs.Formats.{IsFormed, after_mark, code, head, lists_named, mark, narrow, unformed, wide_named}
+use Rattle.zv_map2d.specs.Formats.{IsFormed, after_mark, code, lists_named, mark, narrow, unformed, wide_named}
 use Rattle.zv_map2d.specs.Frame.{Parts, frame, unframe}
 use Rattle.zv_map2d.specs.declared.image.WideLists.{WideLists}
 use Rattle.zv_map2d.proofs.Unframed.{AreBytes, frame-unframe, parts_stand}

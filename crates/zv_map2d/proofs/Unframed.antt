@@ -1,9 +1,8 @@
 -- Images: from the bytes to the parts, and to the map that they stand for.
-use Rattle.zv_map2d.proofs.Common.{◌≡◌, ℕ, ◌<◌, ◌≤◌, List, ◌++◌, length, take, drop, Option, Some, None, sym, ◌∙◌, ap, subst, arith, Result, Ok, Err}
+use Rattle.zv_map2d.proofs.Common.{◌≡◌, ℕ, ◌<◌, ◌≤◌, List, ◌++◌, length, take, drop, Option, Some, None, sym, ◌∙◌, ap, subst, arith}
 use Rattle.zv_map2d.proofs.Common.{append-nil, nil_from_length, take-append-drop, option_and_then_some, IsBytes, le, number, elements, list_fault}
-use Rattle.zv_map2d.proofs.Common.{Part, lists_read, read_fault, rows_read, Bytes, Map2d, parts_of, append_assoc, length-take-le}
+use Rattle.zv_map2d.proofs.Common.{Part, lists_read, read_fault, rows_read, Bytes, append_assoc, length-take-le}
 use Rattle.std.proofs.lemmas.Cmp.{nat_list_cmp_total as total}
-use Rattle.std.specs.Result.{result_err, IfOk}
 use Rattle.zv_ule.proofs.Fields.{le-number_at}
 use Rattle.zv_ule.proofs.Lists.{front_bytes, back_bytes}
 use Rattle.zv_ule.specs.Kinds.{text_fault}
@@ -12,11 +11,10 @@ use Rattle.zv_var.proofs.Read.{Part_from_fault, valid_from_fault}
 use Rattle.zv_var.specs.Frame.{framed, first_part}
 use Rattle.zv_var.specs.Laws.{AreValid}
 use Rattle.zv_map2d.specs.Frame.{Parts, frame, unframe}
-use Rattle.zv_map2d.specs.Formats.{IsFormed, narrow, width}
+use Rattle.zv_map2d.specs.Formats.{IsFormed, width}
 use Rattle.zv_map2d.specs.Image.{by_bytes, bytes_fault, texts_in, var_list, Stands}
 use Rattle.zv_map2d.specs.declared.image.WideLists.{WideLists}
-use Rattle.zv_map2d.proofs.Common.{Bool, true, false, refl, inl}
-use Rattle.zv_map2d.specs.declared.error.EditError.{EditError}
+use Rattle.zv_map2d.proofs.Common.{Bool, true, false}
 use Rattle.zv_map2d.proofs.Numbers.{joiner_written}
 use Rattle.zv_map2d.proofs.Parsed.{held_lists}
 

@@ -1,5 +1,5 @@
 -- The canonical image of a map that an image stands for.
-use Rattle.zv_map2d.proofs.Common.{◌≡◌, ℕ, zero, suc, ◌+◌, ◌-◌, ◌^◌, ◌<◌, ◌≤◌, Bool, true, false, List, [], ◌∷◌, ◌++◌, length, refl, ap, subst, inl, inr}
+use Rattle.zv_map2d.proofs.Common.{ℕ, zero, suc, ◌+◌, ◌-◌, ◌<◌, ◌≤◌, Bool, true, false, List, [], ◌∷◌, ◌++◌, length, refl, ap, subst, inl, inr}
 use Rattle.zv_map2d.proofs.Common.{arith, drop_at, IsBytes}
 use Rattle.zv_map2d.proofs.Common.{flat_map, length-append, le, Part, Bytes, Rows, ends, firsts, seconds, values}
 use Rattle.std.proofs.Common.{◌*◌, ◌/◌, ◌%◌}

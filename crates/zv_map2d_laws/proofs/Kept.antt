@@ -1,5 +1,5 @@
 -- A change of a map keeps its keys texts, and its lists such that they can be written.
-use Rattle.zv_map2d.proofs.Common.{◌≡◌, ℕ, suc, ◌+◌, ◌^◌, ◌<◌, ◌≤◌, ◌==◌, true, List, [], ◌∷◌, length, None, refl, sym, ◌∙◌, ap, arith, length-map, insert}
+use Rattle.zv_map2d.proofs.Common.{◌≡◌, ℕ, suc, ◌+◌, ◌≤◌, ◌==◌, true, List, length, None, refl, sym, ◌∙◌, ap, arith, length-map, insert}
 use Rattle.zv_map2d.proofs.Common.{remove, at_within, values_with, keys_of, Bytes, IsPlace, del_at, fits_at, put_at, Rows, IsFlat, IsWell, before, row_at, row}
 use Rattle.zv_map2d.proofs.Common.{del, ends, firsts, seconds, values}
 use Rattle.std.proofs.lemmas.Bool.{and_parts, cond_both}

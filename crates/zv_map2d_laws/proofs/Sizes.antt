@@ -1,10 +1,9 @@
 -- How many bytes the lists of a map take with fields of four bytes.
-use Rattle.zv_map2d.proofs.Common.{◌≡◌, ℕ, suc, ◌+◌, ◌-◌, ◌^◌, ◌<◌, ◌≤◌, Bool, true, List, [], ◌∷◌, length, get_or, Option, Some, None, inl, inr, refl}
+use Rattle.zv_map2d.proofs.Common.{◌≡◌, ℕ, suc, ◌+◌, ◌-◌, ◌^◌, ◌<◌, ◌≤◌, Bool, true, List, [], ◌∷◌, length, Option, Some, None, inl, inr, refl}
 use Rattle.zv_map2d.proofs.Common.{arith, insert, remove, set}
-use Rattle.zv_map2d.proofs.Common.{at_within, gap_within, length-set, length-map, Bytes, IsPlace, put_at, Rows, IsFlat, before, row_at, ends, firsts}
+use Rattle.zv_map2d.proofs.Common.{at_within, gap_within, length-set, length-map, Bytes, IsPlace, put_at, Rows, IsFlat, before, row_at, firsts}
 use Rattle.zv_map2d.proofs.Common.{seconds, values}
 use Rattle.zv_map2d.proofs.Common.{find, look_up, if_found, take_all, drop_all, append-nil}
-use Rattle.std.proofs.Common.{◌*◌}
 use Rattle.std.proofs.lemmas.Bool.{cases_lt}
 use Rattle.std.proofs.lemmas.Bool.Decides.{nat_tests}
 use Rattle.std.proofs.lemmas.Cmp.{nat_list_cmp_total as total}
@@ -13,7 +12,7 @@ use Rattle.std.proofs.lemmas.List.Sums.{sum_by-insert, sum_by-set, sum_by-remove
 use Rattle.zv_owned.proofs.Sizes.{size_total}
 use Rattle.zv_owned.specs.Size.{size, takes_insert, takes_replace}
 use Rattle.zv_map2d.specs.Fits.{pair_fits, texts_rule}
-use Rattle.zv_map2d.specs.Image.{by_bytes, Stands}
+use Rattle.zv_map2d.specs.Image.{by_bytes}
 use Rattle.zv_map2d.specs.declared.place.Place.{Place}
 use Rattle.zv_map2d.specs.declared.place.Place.TheVariants.{Pair, InRow, NewRow}
 use Rattle.zv_map2d.proofs.Flat.{pair_within, place_within}

@@ -1,7 +1,7 @@
 -- Images: the frame and its parts, and what they stand for.
 use Rattle.zv_map2d.proofs.Common.{◌≡◌, ℕ, suc, ◌+◌, ◌^◌, ◌<◌, ◌≤◌, Bool, true, false, List, [], ◌∷◌, ◌++◌, length, get_or, take, Some, None, refl, sym}
 use Rattle.zv_map2d.proofs.Common.{◌∙◌, ap, arith}
-use Rattle.zv_map2d.proofs.Common.{length-append, append_assoc, take_at, same_Some, IsBytes, le, number, inl, inr, append-nil, AllByRecursion, Part}
+use Rattle.zv_map2d.proofs.Common.{length-append, append_assoc, take_at, same_Some, le, number, inl, inr, append-nil, AllByRecursion, Part}
 use Rattle.zv_map2d.proofs.Common.{lists_read, IsFlat, read_fault, rows_read, Bytes, Rows, ends, firsts, seconds, values}
 use Rattle.std.proofs.Common.{◌-◌}
 use Rattle.std.proofs.lemmas.Bool.{cases_Bool}

@@ -10,8 +10,8 @@ IsTaken-from is = record { taken = is }
 pub put_at-requires : goal.put_at-requires
 put_at-requires c κs =
     let m = c.args.map.now.rows in
-    let v = c.of_bytes-value.result.bytes.now in
-    let same : v ≡ c.args.value.now = search rules in
+    let v = c.value_for.result.bytes.now in
+    let same : v ≡ c.args.value.now = c.value_for.ensures in
     let fits : fits_texts m c.args.key0.now c.args.key1.now v ≡ true = rw same c.requires.fits in
-    let taken = IsTaken-from (fits_alike m c.args.key0.now c.args.key1.now v c.in_order.ensures.ascending ∙ fits) in
+    let taken = IsTaken-from (fits_alike 4 m c.args.key0.now c.args.key1.now v c.in_order.ensures.ascending ∙ fits) in
     ((refl, tt), (c.requires.place, (search rules, (search rules, (search rules, (taken, rw same c.requires.room))))))
