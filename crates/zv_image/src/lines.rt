@@ -22,7 +22,7 @@ fn write_part<K: Sink>(out: &mut Output<'_, K>, part: &[u8]) -> Result<(), Faile
     out.write_hex(part)
 }
 
-// Writes the hex digits of the image of four parts.
+// Writes the hex digits of the frame of four parts.
 #[tactic(auto, using(zv_command::proofs::Sending::sends_more, crate::proofs::Parts::in_four))]
 fn write_parts<K: Sink>(out: &mut Output<'_, K>, parts: Parts<'_>) -> Result<(), Failed>
     ensures { Sends K.taken K.faults out.old out.new result
@@ -44,8 +44,22 @@ fn write_head<K: Sink>(out: &mut Output<'_, K>, lists: WideLists) -> Result<(), 
     out.write_hex(&lists.head())
 }
 
-/// Writes the line of the image of four parts, of which these lists are wide, and sends it.
+// Writes the hex digits of the image of four parts, of which these lists are wide.
 #[tactic(auto, using(zv_command::proofs::Sending::sends_more, crate::proofs::Parts::after_head))]
+fn write_digits<K: Sink>(
+    out: &mut Output<'_, K>,
+    lists: WideLists,
+    parts: Parts<'_>,
+) -> Result<(), Failed>
+    ensures { Sends K.taken K.faults out.old out.new result
+        (encode_lower (head_of lists ++ frame (bytes_of parts.entry))) }
+{
+    write_head(out, lists)?;
+    write_parts(out, parts)
+}
+
+/// Writes the line of the image of four parts, of which these lists are wide, and sends it.
+#[tactic(auto, using(zv_command::proofs::Sending::sends_more))]
 pub fn write_image<K: Sink>(
     out: &mut Output<'_, K>,
     lists: WideLists,
@@ -56,8 +70,7 @@ pub fn write_image<K: Sink>(
     ensures sent { OnOk result (out.new.piece ≡ []) }
 {
     out.write(b"image x")?;
-    write_head(out, lists)?;
-    write_parts(out, parts)?;
+    write_digits(out, lists, parts)?;
     out.write(b"\n")?;
     out.send()
 }

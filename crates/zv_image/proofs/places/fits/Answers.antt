@@ -1,4 +1,4 @@
-use Rattle.std.proofs.Common.{◌≡◌, ◌∙◌, rules}
+use Rattle.std.proofs.Common.{◌≡◌, ◌∙◌}
 use Rattle.zv_map2d_laws.proofs.Kept.{fits_alike}
 use Rattle.zv_image.proofs.places.fits.Goals as goal
 
