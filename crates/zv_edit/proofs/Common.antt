@@ -1,6 +1,6 @@
 -- The names that several proofs cite, passed on from one place. Declares nothing.
 pub use Rattle.std.proofs.Common.{◌≡◌, rules, ap, ◌∙◌, ℕ, List, ◌++◌, sym, arith, refl, length, [], ◌+◌, ◌∷◌, Some, take, Ok, ◌≤◌, true, None, Err, Option}
-pub use Rattle.std.proofs.Common.{drop, Result, Bool, false, subst, inl, inr, ◌<◌, suc, codes, append-nil, take_all, zero, replicate, get_or, OnErr}
+pub use Rattle.std.proofs.Common.{drop, Result, Bool, false, subst, inl, inr, ◌<◌, suc, codes, append-nil, take_all, zero, replicate, get_or, OnErr, OnOk}
 pub use Rattle.std.proofs.lemmas.List.{drop_more, append_cancel_right, append_cancel_left, drop_all}
 pub use Rattle.std.specs.List.{flat_map, AllByRecursion}
 pub use Rattle.std.specs.Option.{option_map_or}
@@ -23,6 +23,6 @@ pub use Rattle.zv_command.specs.declared.status.Status.TheVariants.{Done}
 pub use Rattle.zv_image.specs.Room.{HasRoomOf, SpendsOf}
 pub use Rattle.zv_image.specs.Text.{image_line}
 pub use Rattle.zv_edit.specs.Answers.{last, reply_lines, next, answers, IsAnswer, reply, replies}
-pub use Rattle.zv_edit.specs.Laws.{LeftStands, SameEdits, WrittenBack, KeysAreTexts}
+pub use Rattle.zv_edit.specs.Laws.{LeftStands, SameEdits, WrittenBack, KeysAreTexts, NeverTooLarge}
 pub use Rattle.zv_edit.specs.Output.{text, missing, added, old, too_large, pair_text, some, pairs, found_line, Reply}
 pub use Rattle.zv_edit.specs.Requests.{IsLooked, with_command}

@@ -1,15 +1,9 @@
 -- Edits with no commands.
-use Rattle.zv_edit.proofs.Common.{◌≡◌, ℕ, List, [], ◌∷◌, ◌++◌, Ok, sym, ◌∙◌, ap, subst, codes, decode_of, encode_lower, Stands, canon, Rows, answers}
+use Rattle.zv_edit.proofs.Common.{arith, ◌≡◌, ℕ, List, [], ◌∷◌, ◌++◌, Ok, sym, ◌∙◌, ap, codes, decode_of, encode_lower, canon, answers}
 use Rattle.zv_edit.proofs.Common.{image_line, append_cancel_left, append_cancel_right, decode_of-encode_lower, decode_of-same, canon_again, same_canon}
 use Rattle.zv_edit.proofs.Common.{SameEdits, WrittenBack}
 use Rattle.zv_ule.specs.Bytes.{IsBytes}
-use Rattle.zv_ule.specs.laws.OptionSpellings.{zero_bytes}
-use Rattle.zv_map2d_laws.proofs.OnlyImage.{one_image}
-
--- the canonical image of a map that bytes stand for is bytes
-canon_bytes : (image : List ℕ) (m : Rows) → IsBytes image → Stands image m → IsBytes (canon m)
-canon_bytes image [] bytes stands = zero_bytes 32
-canon_bytes image (r ∷ m) bytes stands = subst IsBytes (one_image image (r ∷ m) stands (λ e. cc)) bytes
+use Rattle.zv_map2d_laws.proofs.Canon.{canon_bounded}
 
 -- bytes with the same digits are the same
 same_digits : (a b : List ℕ) → IsBytes a → IsBytes b → encode_lower a ≡ encode_lower b → a ≡ b
@@ -26,8 +20,8 @@ same_lines a b bytes_a bytes_b e =
 pub same_edits : SameEdits
 same_edits image other m n bytes_image bytes_other short_image short_other stands_m stands_n =
     let same = same_canon image other m n short_image short_other stands_m stands_n in
-    let bytes_m = canon_bytes image m bytes_image stands_m in
-    let bytes_n = canon_bytes other n bytes_other stands_n in
+    let bytes_m = (canon_bounded image m bytes_image (omega arith) stands_m).0 in
+    let bytes_n = (canon_bounded other n bytes_other (omega arith) stands_n).0 in
     (ap (λ x. answers x []), λ e. same.1 (same_lines (canon m) (canon n) bytes_m bytes_n e))
 
 pub written_back : WrittenBack

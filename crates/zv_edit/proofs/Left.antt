@@ -1,9 +1,8 @@
 -- What commands leave of a map of texts that can be written is one again.
-use Rattle.zv_edit.proofs.Common.{arith, ◌≡◌, ℕ, true, List, [], ◌∷◌, Rows, Command, Get, Put, Del, Row, last, next}
+use Rattle.zv_edit.proofs.Common.{arith, List, [], ◌∷◌, Rows, Command, Get, Put, Del, Row, last, next}
 use Rattle.zv_edit.proofs.Common.{OfTexts, AllByRecursion, IsTextMap, put_texts, del_texts, put_codable, del_codable, LeftStands}
-use Rattle.zv_var.specs.Format.{Part, codable}
 use Rattle.zv_map2d_laws.specs.Laws.{IsCodable}
-use Rattle.zv_map2d_laws.proofs.Standing.{canon_stands}
+use Rattle.zv_map2d_laws.proofs.Standing.{canon_stands, codable_lists}
 
 next_kept : (m : Rows) (c : Command) → IsTextMap m → IsCodable m → OfTexts c → IsTextMap (next m c) × IsCodable (next m c)
 next_kept m (Get k0 k1) texts lists keys = (texts, lists)
@@ -18,12 +17,9 @@ last_kept m (c ∷ cs) texts lists keys =
     let one = next_kept m c texts lists keys.0 in
     last_kept (next m c) cs one.0 one.1 keys.1
 
-part_codable : (b : List ℕ) (xs : List (List ℕ)) → Part 2 b xs → codable 2 xs ≡ true
-part_codable b xs part = grind arith
-
 pub left_stands : LeftStands
 left_stands image m cs stands keys =
     let s = stands.spelled in
-    let lists : IsCodable m = record { keys0 = part_codable _ _ s.keys0; keys1 = part_codable _ _ s.keys1; values = part_codable _ _ s.values } in
+    let lists : IsCodable m = codable_lists s in
     let kept = last_kept m cs stands.map lists keys in
     canon_stands (last m cs) kept.0 kept.1

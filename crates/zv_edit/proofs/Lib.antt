@@ -1,6 +1,7 @@
 mod Worked
 pub mod Common
 pub mod Edits
+pub mod Fitting
 pub mod Left
 pub mod Looks
 pub mod PutRoom

@@ -1,5 +1,6 @@
 -- Commands, one after another.
-use Rattle.zv_edit.proofs.Common.{arith, ◌≡◌, ℕ, suc, zero, ◌+◌, ◌<◌, ◌∙◌, List, [], ◌∷◌, drop, take, length, get_or, sym, ap, Result, OnErr, Rows, Command}
+use Rattle.zv_edit.proofs.Common.{arith, ◌≡◌, ℕ, suc, zero, ◌+◌, ◌<◌, ◌∙◌, List, [], ◌∷◌, drop, take, length, get_or, sym, ap, Result, OnErr, OnOk, Rows}
+use Rattle.zv_edit.proofs.Common.{Command}
 use Rattle.zv_edit.proofs.Common.{next, last, drop_more}
 
 -- the commands from a place on
@@ -17,3 +18,6 @@ last_more m (d ∷ cs) (suc i) c rest is = last_more (next m d) cs i c rest is
 -- what holds anyhow
 pub at_err : {T E P : Type 0} (r : Result T E) → P → OnErr r P
 at_err r p = grind arith
+
+pub at_ok : {T E P : Type 0} (r : Result T E) → P → OnOk r P
+at_ok r p = grind arith

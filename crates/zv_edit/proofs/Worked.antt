@@ -128,39 +128,42 @@ locales_left : length (canon (last locales of_locales)) ∷ ends (last locales o
 unfolding of_locales
 locales_left = refl
 
--- ---- values that do not fit
+-- ---- long values
 
--- as many bytes as a value can have, of one kind
+-- as many bytes as a value can have beside fields of two bytes, of one kind
 abbrev longest : ℕ → List ℕ
 longest byte = replicate 65534 byte
 
--- a full list of values takes no other, and a value gives way to one of its length
-abbrev full_values : List Command
-full_values = Put a b (longest 0) ∷ Put a c (1 ∷ []) ∷ Put a b (longest 1) ∷ Put a b (2 ∷ []) ∷ []
+-- another value beside it, and values in its place
+abbrev long_values : List Command
+long_values = Put a b (longest 0) ∷ Put a c (1 ∷ []) ∷ Put a b (longest 1) ∷ Put a b (2 ∷ []) ∷ []
 
-full_values_replies : replies [] full_values ≡ added ∷ too_large ∷ old (longest 0) ∷ old (longest 1) ∷ []
-full_values_replies = refl
+long_values_replies : replies [] long_values ≡ added ∷ added ∷ old (longest 0) ∷ old (longest 1) ∷ []
+long_values_replies = refl
 
-full_values_left : last [] full_values ≡ (a, (b, 2 ∷ []) ∷ []) ∷ []
-full_values_left = refl
+long_values_left : last [] long_values ≡ (a, (b, 2 ∷ []) ∷ (c, 1 ∷ []) ∷ []) ∷ []
+long_values_left = refl
 
--- a byte more than a value can have
-one_byte_more : replies [] (Put a b (0 ∷ longest 0) ∷ []) ≡ too_large ∷ []
+-- a byte more
+one_byte_more : replies [] (Put a b (0 ∷ longest 0) ∷ []) ≡ added ∷ []
 one_byte_more = refl
 
--- a value that does not fit leaves no row behind
-no_empty_row : replies [] (Put a b (longest 0) ∷ Put c (codes "d") (1 ∷ []) ∷ Row c ∷ []) ≡ added ∷ too_large ∷ missing ∷ []
-no_empty_row = refl
+-- another row beside it: the values are wide then
+abbrev beside_longest : List Command
+beside_longest = Put a b (longest 0) ∷ Put c (codes "d") (1 ∷ []) ∷ Row c ∷ []
 
-no_empty_row_image : length (canon (last [] (Put a b (longest 0) ∷ Put c (codes "d") (1 ∷ []) ∷ []))) ≡ 65578
-no_empty_row_image = refl
+beside_longest_replies : replies [] beside_longest ≡ added ∷ added ∷ pairs ((codes "d", 1 ∷ []) ∷ []) ∷ []
+beside_longest_replies = refl
 
--- a value longer than any that can be put is read, is not put back, and gives way
+beside_longest_image : length (canon (last [] beside_longest)) ≡ 65606
+beside_longest_image = refl
+
+-- a value in an image is put back, and gives way
 oversized : List ℕ
 oversized = replicate 70000 7
 
 oversized_replies : replies ((a, (b, oversized) ∷ []) ∷ []) (Get a b ∷ Put a b oversized ∷ Put a b (1 ∷ 2 ∷ 3 ∷ []) ∷ [])
-    ≡ some oversized ∷ too_large ∷ old oversized ∷ []
+    ≡ some oversized ∷ old oversized ∷ old oversized ∷ []
 unfolding oversized
 oversized_replies = refl
 

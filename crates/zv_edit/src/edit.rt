@@ -22,6 +22,7 @@ use zv_ule::NoMemory;
 ///
 /// The image is copied once, with room for all puts, so memory is refused before the first byte and
 /// never after it; [`serve`] does the rest. A refused image takes no memory and writes nothing.
+#[tactic(auto, using(zv_map2d_laws::proofs::Standing::few_pairs))]
 pub fn edit2d<K: Sink>(
     alloc: Global,
     image: &[u8],

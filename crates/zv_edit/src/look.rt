@@ -12,7 +12,7 @@ ghost use Rattle.zv_edit.specs.Output.{found_line};
 use std::alloc::Global;
 use zv_command::{Output, Request, Status, write_value};
 use zv_devices::{Failed, Sink};
-use zv_image::refuse;
+use zv_image::{plain, refuse};
 use zv_input::KeyText;
 use zv_map2d::{EditError, parse_image};
 use zv_ule::{NoMemory, SliceULE, VarRef};
@@ -38,7 +38,7 @@ pub fn look2d<'a>(
     let Some(view) = map.as_borrowed_inner() else {
         unreachable!();
     };
-    Ok(view.get_2d(&key0, &key1))
+    Ok(plain(view.get_2d(&key0, &key1)))
 }
 
 // Writes the line of a value that was found, or of none.

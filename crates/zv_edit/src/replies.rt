@@ -15,8 +15,9 @@ ghost use Rattle.zv_command.specs.Sending.{Sends};
 
 use zv_command::{Output, write_found};
 use zv_devices::{Failed, Sink};
-use zv_image::{discard, find_place, fits, put_fitting, value_at};
+use zv_image::{discard, find_place, fits, plain, put_fitting, value_at};
 use zv_input::{Command, KeyText, ValueBytes};
+use zv_map::FlexULE;
 use zv_map2d::{ImageMap, Iter1, Place};
 use zv_ule::{SliceULE, StrULE};
 
@@ -33,7 +34,7 @@ fn write_pair<K: Sink>(out: &mut Output<'_, K>, key: &[u8], value: &[u8]) -> Res
 #[tactic(auto, using(zv_command::proofs::Sending::sends_more))]
 fn write_pairs<K: Sink>(
     out: &mut Output<'_, K>,
-    pairs: Iter1<'_, StrULE, SliceULE<u8>>,
+    pairs: Iter1<'_, FlexULE<StrULE>, FlexULE<SliceULE<u8>>>,
 ) -> Result<(), Failed>
     ensures { Sends K.taken K.faults out.old out.new result
         (flat_map pair_text (left_of pairs.entry)) }
@@ -54,7 +55,7 @@ fn get<K: Sink>(
     ensures { Sends K.taken K.faults out.old out.new result
         (text (reply map.now.rows (Command.Get key0.now key1.now))) }
 {
-    let found = map.get_2d(&key0.as_str(), &key1.as_str());
+    let found = plain(map.get_2d(&key0.as_str(), &key1.as_str()));
     write_found(out, found, b"some x", b"none\n")
 }
 

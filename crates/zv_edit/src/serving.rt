@@ -1,6 +1,7 @@
 // Runs commands on a map that has room for them.
 ghost use Rattle.std.specs.Prelude.{◌≡◌, ℕ, [], take, OnErr, OnOk};
 ghost use Rattle.zv_edit.specs.Answers.{answers, last, reply_lines};
+ghost use Rattle.zv_map2d.specs.Room.{IsReady};
 ghost use Rattle.zv_devices.specs.Devices.{HasCause, Takes};
 ghost use Rattle.zv_image.specs.Room.{HasRoomOf};
 ghost use Rattle.zv_input.specs.Sizes.{put_sizes};
@@ -11,7 +12,7 @@ use zv_command::Output;
 use zv_devices::{Failed, Sink};
 use zv_image::write_image;
 use zv_input::Commands;
-use zv_map2d::ImageMap;
+use zv_map2d::{ImageMap, wide_lists};
 
 // Runs commands, writes their replies, and sends them.
 fn run_commands<K: Sink>(
@@ -23,6 +24,7 @@ fn run_commands<K: Sink>(
     ensures text { Sends K.taken K.faults out.old out.new result
         (reply_lines map.old.rows commands.now) }
     ensures ok { OnOk result (map.new.rows ≡ last map.old.rows commands.now) }
+    ensures ready { OnOk result (IsReady map.new) }
     ensures failed { OnErr result ((n : ℕ)
         × (map.new.rows ≡ last map.old.rows (take n commands.now))) }
 {
@@ -48,7 +50,8 @@ fn write_answer<K: Sink>(
         × (map.new.rows ≡ last map.old.rows (take n commands.now))) }
 {
     run_commands(out, map, commands)?;
-    write_image(out, map.canon_parts())
+    map.settle();
+    write_image(out, wide_lists(map), map.canon_parts())
 }
 
 /// Runs commands on the map of an image, in order, and writes the reply of each as it runs and then

@@ -2,7 +2,7 @@ use Rattle.zv_edit.proofs.Common.{◌≡◌, ◌+◌, ◌++◌, ◌∙◌, ℕ, 
 use Rattle.zv_edit.proofs.Common.{drop_all}
 use Rattle.zv_edit.proofs.PutRoom.{room_for_one, room_for_rest}
 use Rattle.zv_command.proofs.Sending.{completes_more, completes_cut, completes_last, sends_as}
-use Rattle.zv_edit.proofs.Served.{ahead, at_err, last_more}
+use Rattle.zv_edit.proofs.Served.{ahead, at_err, at_ok, last_more}
 use Rattle.zv_edit.proofs.serving.run_commands.Goals as goal
 
 pub run_command-requires : goal.run_command-requires
@@ -41,6 +41,9 @@ returns-clause-text g c =
     let none = drop_all l.command-index c.as_slice-command-items.result.now (omega arith) in
     sends_as (ap (reply_lines c.args.map.now.rows) (sym c.as_slice-command-items.ensures.commands))
     (completes_last l.invariant.text (ap (reply_lines l.map.rows) none) c.send.ensures.text)
+
+pub returns-clause-ready : goal.returns-clause-ready
+returns-clause-ready g c = at_ok c.send.result c.loop-command.invariant.room.ready
 
 pub returns-clause-failed : goal.returns-clause-failed
 returns-clause-failed g c =
