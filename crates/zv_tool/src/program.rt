@@ -36,8 +36,8 @@ fn run_form<S: Source, K: Sink>(alloc: Global, form: Form, source: &mut S, sink:
 /// is a command, which runs on the map that those before it left:
 ///
 /// - `get K K` looks up a pair of keys, and is answered `some xV`, or `none`;
-/// - `put K K F` gives a pair a value, and is answered `new`, `old xV` with the value that the pair
-///   had, or `toolarge`, which changes nothing;
+/// - `put K K F` gives a pair a value, and is answered `new`, or `old xV` with the value that the
+///   pair had; `toolarge` would say that a list passes 4 GB, which no input within the limit makes;
 /// - `del K K` removes a pair, and is answered `old xV`, or `none`;
 /// - `row K` lists the pairs of a first key in order, and is answered `row` and ` xK xV` for each,
 ///   or `none`.
