@@ -1,5 +1,5 @@
 -- Edits with no commands.
-use Rattle.zv_edit.proofs.Common.{◌≡◌, ℕ, List, [], ◌∷◌, ◌++◌, Ok, sym, ◌∙◌, ap, subst, codes, decode_of, encode_lower, Stands, canon, Rows, answers}
+use Rattle.zv_edit.proofs.Common.{arith, ◌≡◌, ℕ, List, [], ◌∷◌, ◌++◌, Ok, sym, ◌∙◌, ap, codes, decode_of, encode_lower, canon, answers}
 use Rattle.zv_edit.proofs.Common.{image_line, append_cancel_left, append_cancel_right, decode_of-encode_lower, decode_of-same, canon_again, same_canon}
 use Rattle.zv_edit.proofs.Common.{SameEdits, WrittenBack}
 use Rattle.zv_ule.specs.Bytes.{IsBytes}

@@ -1,12 +1,14 @@
 -- Each value of an input within the limit fits.
-use Rattle.zv_edit.proofs.Common.{◌≡◌, ℕ, ◌+◌, ◌≤◌, ◌<◌, arith, true, List, [], ◌∷◌, ◌++◌, length, Some, None, Ok, Rows, Command, Get, Put, Del, Row, next}
+use Rattle.zv_edit.proofs.Common.{◌≡◌, ℕ, ◌+◌, ◌≤◌, ◌<◌, arith, List, [], ◌∷◌, ◌++◌, length, subst, Result, Rows, Command, Get, Put, Del, Row, next}
 use Rattle.zv_edit.proofs.Common.{reply, replies}
-use Rattle.zv_edit.proofs.Common.{AllByRecursion, command_size, fits_texts, by_bytes, find, old, added, too_large, option_map_or, Stands, with_command}
+use Rattle.zv_edit.proofs.Common.{AllByRecursion, command_size, by_bytes, too_large, with_command}
 use Rattle.zv_edit.proofs.Common.{NeverTooLarge}
 use Rattle.std.proofs.Common.{◌*◌, ◌-◌, ◌^◌}
 use Rattle.std.proofs.lemmas.Cmp.{nat_list_cmp_total as total}
 use Rattle.std.proofs.lemmas.List.Sums.{sum_by-cons, sum_by_push}
+use Rattle.std.specs.List.{slice_split}
 use Rattle.std.specs.Prelude.{IfOk, sum_by}
+use Rattle.zv_input.proofs.Common.{is_byte}
 use Rattle.zv_input.proofs.Fields.{field_is, line_command, pieces_size}
 use Rattle.zv_input.specs.Commands.{total_size}
 use Rattle.zv_input.specs.Input.{lines, without_empty_last}
@@ -52,7 +54,8 @@ lines_size n cs [] = omega arith
 lines_size n cs (line ∷ rest) =
     let one = line_command line in
     let sum = sum_by-cons length line rest in
-    let more = λ (c : Command). (lines_size (n + 1) (cs ++ c ∷ []) rest, sum_by_push command_size cs c) in
+    let more = λ (c : Command). lines_size (n + 1) (cs ++ c ∷ []) rest in
+    let pushed = λ (c : Command). sum_by_push command_size cs c in
     grind arith
 
 by_lines : (ls : List (List ℕ)) → IfOk (with_all with_command [] ls) (λ parts. length parts.0 + total_size parts.1 ≤ sum_by length ls)
@@ -69,5 +72,8 @@ without_last (p ∷ q ∷ ps) =
 pub never_too_large : NeverTooLarge
 unfolding request_of
 never_too_large input image cs m short is stands =
-    let size : length image + total_size cs ≤ sum_by length (lines input) = subst (λ r. IfOk r _) is (by_lines (lines input)) in
-    all_fit m cs stands.map.in_order (omega (arith, without_last _, pieces_size 10 input, image_holds image m stands))
+    let size : length image + total_size cs ≤ sum_by length (lines input) =
+    subst (λ (r : Result (List ℕ × List Command) ℕ). IfOk r (λ parts. length parts.0 + total_size parts.1 ≤ sum_by length (lines input))) is
+    (by_lines (lines input)) in
+    let whole = without_last (slice_split (is_byte 10) input) in
+    all_fit m cs stands.map.in_order (omega (arith, whole, pieces_size 10 input, image_holds image m stands))

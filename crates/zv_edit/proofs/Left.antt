@@ -1,5 +1,5 @@
 -- What commands leave of a map of texts that can be written is one again.
-use Rattle.zv_edit.proofs.Common.{arith, ◌≡◌, ℕ, true, List, [], ◌∷◌, Rows, Command, Get, Put, Del, Row, last, next}
+use Rattle.zv_edit.proofs.Common.{arith, List, [], ◌∷◌, Rows, Command, Get, Put, Del, Row, last, next}
 use Rattle.zv_edit.proofs.Common.{OfTexts, AllByRecursion, IsTextMap, put_texts, del_texts, put_codable, del_codable, LeftStands}
 use Rattle.zv_map2d_laws.specs.Laws.{IsCodable}
 use Rattle.zv_map2d_laws.proofs.Standing.{canon_stands, codable_lists}

@@ -1,5 +1,5 @@
 -- The keys of the commands of an input are texts.
-use Rattle.zv_edit.proofs.Common.{◌≡◌, arith, ℕ, ◌+◌, List, [], ◌∷◌, ◌++◌, Command, OfTexts, AllByRecursion, KeysAreTexts, with_command}
+use Rattle.zv_edit.proofs.Common.{arith, ℕ, ◌+◌, List, [], ◌∷◌, ◌++◌, Command, OfTexts, AllByRecursion, KeysAreTexts, with_command}
 use Rattle.std.specs.Prelude.{IfOk}
 use Rattle.zv_ule.proofs.Lists.{all_append}
 use Rattle.zv_input.proofs.Fields.{line_command}
