@@ -8,7 +8,7 @@
 # hashes.txt print; its checksums are the same where it makes the same lists. What it prints of parse_text is the validation
 # of 10,000 texts.
 #
-# The timing programs, bench/timing.txt, changes.txt, tables.txt, hashes.txt and ranges.txt, are Rattle crates that are no part of the
+# The timing programs, bench/timing.txt, changes.txt, tables.txt, hashes.txt, ranges.txt and records.txt, are Rattle crates that are no part of the
 # gate. They are proved and built in bench/out, a copy of the sources with the libraries that the tree has kept (`./zv --prove`
 # and `rt lib` keep them), and stay there: what didn't change is not built again. Each is run as soon as it is built.
 set -euo pipefail
@@ -65,10 +65,11 @@ build changes 'zv_map2d zv_owned zv_ule'
 build tables 'zv_map2d zv_map1 zv_ule'
 build hashes 'zv_hashmap zv_hash zv_ule'
 build ranges 'zv_props zv_ule'
+build records 'zv_multi zv_owned zv_ule'
 beside "${1-}"
 say "all once more"
 echo "-- this repository"
-for name in timing changes tables hashes ranges; do
+for name in timing changes tables hashes ranges records; do
     "$copy/crates/zv_$name/out/zv_$name"
 done
 beside "${1-}"

@@ -159,7 +159,9 @@ pub fn change_image<'a>(
 /// lists are put into the formats that they need.
 pub fn stored_parts<'t>(table: &'t mut StoredTable<'_>) -> Parts<'t>
     requires { IsReady table.old }
-    ensures { bytes_of result ≡ spelling_in (wides_of table.old.rows) table.old.rows }
+    ensures parts { bytes_of result ≡ spelling_in (wides_of table.old.rows) table.old.rows }
+    ensures rows { table.new.rows ≡ table.old.rows }
+    ensures ready { IsReady table.new }
 {
     table.settle();
     table.canon_parts()

@@ -3,6 +3,7 @@
 
 pub mod codes;
 pub mod images;
+pub mod languages;
 pub mod names;
 pub mod regions;
 pub mod scores;

@@ -6,6 +6,8 @@ mod defaults;
 #[cfg(test)]
 mod images;
 #[cfg(test)]
+mod languages;
+#[cfg(test)]
 mod look_ups;
 #[cfg(test)]
 mod maps;

@@ -1,11 +1,15 @@
 // How often look-ups in a map of 28 locales compare, counted by the keys themselves.
+ghost use Rattle.std.specs.Prelude.{◌≡◌, ◌<◌};
+
 use std::cell::Cell;
+use std::marker::Brand;
 use std::process::Abort;
+use std::sync::ledger::{Blank, Ledger};
 use std::test::Fail;
 use zv_counting::CountingKey;
 use zv_map::{MutableZeroVecLike, ZeroMapKV, ZvContainer};
-use zv_map2d::Map2dOver;
-use zv_ule::{SliceULE, StrULE};
+use zv_map2d::{Map2dOver, ZeroMap2d};
+use zv_ule::{SliceULE, Steps, StrULE};
 
 const KEYS0: &[u8] = b"\
     \x15\x00\x03\x00\x05\x00\x07\x00\x09\x00\x0b\x00\x0e\x00\x10\x00\x12\x00\x14\x00\x17\
@@ -150,4 +154,66 @@ where
 #[test]
 fn look_ups_halve_their_keys(rt: HostRuntime) -> Result<(), Fail> {
     halves_its_keys::<Of<'_, StrULE>, Of<'_, StrULE>, Of<'_, SliceULE<u8>>>(&rt)
+}
+
+// ---- look-ups whose steps are counted too
+
+type Stored<'a> = ZeroMap2d<'a, StrULE, StrULE, SliceULE<u8>>;
+
+// Looks a pair up with the steps counted, and says whether it is there.
+fn find_pair<L: Ledger>(
+    map: &Stored<'_>,
+    key0: &CountingKey<'_>,
+    key1: &CountingKey<'_>,
+    blank: Blank,
+) -> bool
+    requires name { blank.name ≡ L.name }
+    requires parts { blank.parts ≡ L.parts }
+    requires some { 0 < blank.parts }
+{
+    let mut steps = Steps::<L>::start(blank);
+    map.get_2d_counted(key0, key1, &mut steps).is_some()
+}
+
+// Looks a row up, and then a pair in it, with the steps counted.
+fn find_in_row<L: Ledger>(
+    map: &Stored<'_>,
+    key0: &CountingKey<'_>,
+    key1: &CountingKey<'_>,
+    blank: Blank,
+) -> bool
+    requires name { blank.name ≡ L.name }
+    requires parts { blank.parts ≡ L.parts }
+    requires some { 0 < blank.parts }
+{
+    let mut steps = Steps::<L>::start(blank);
+    match map.get0_counted(key0, &mut steps) {
+        Some(row) => row.get1_counted(key1, &mut steps).is_some(),
+        None => false,
+    }
+}
+
+// How many comparisons the counted look-ups make of a pair that is there.
+fn counted(rt: &impl Abort, map: &Stored<'_>, language: &str, script: &str) -> Comparisons {
+    let (in_map, of_row, in_row) = (Cell::new(0), Cell::new(0), Cell::new(0));
+    let key0 = CountingKey::new(language, &in_map);
+    let key1 = CountingKey::new(script, &in_map);
+    assert!(rt; find_pair::<Brand>(map, &key0, &key1, Blank::new(1)));
+    let key0 = CountingKey::new(language, &of_row);
+    let key1 = CountingKey::new(script, &in_row);
+    assert!(rt; find_in_row::<Brand>(map, &key0, &key1, Blank::new(1)));
+    Comparisons {
+        in_map: in_map.get(),
+        of_row: of_row.get(),
+        in_row: in_row.get(),
+    }
+}
+
+#[test]
+fn counted_look_ups_halve_their_keys(rt: HostRuntime) -> Result<(), Fail> {
+    let map = Stored::parse_parts(KEYS0, JOINER, KEYS1, VALUES)?;
+    for (language, script, scripts) in &PAIRS {
+        are_few(&rt, counted(&rt, &map, language, script), *scripts);
+    }
+    Ok(())
 }

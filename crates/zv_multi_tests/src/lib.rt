@@ -6,6 +6,8 @@ mod composed;
 #[cfg(test)]
 mod cows;
 #[cfg(test)]
+mod maps;
+#[cfg(test)]
 mod records;
 #[cfg(test)]
 mod refused;
