@@ -38,54 +38,18 @@ pub fn cases() -> &'static [Case] {
     &CASES
 }
 
-const CASES: [Case; 40] = [
+/// The cases of images with a head.
+pub fn head_cases() -> &'static [Case] {
+    &HEAD_CASES
+}
+
+const CASES: [Case; 35] = [
     Case {
         name: "the empty image",
         words: &["edit"],
         input: &["x", EMPTY, "\n"],
         output: &["image x", EMPTY, "\n"],
         status: Status::Done,
-    },
-    Case {
-        name: "a head that names no wide list",
-        words: &["edit"],
-        input: &["xffffffffffffffff101010", EMPTY, "\n"],
-        output: &["image x", EMPTY, "\n"],
-        status: Status::Done,
-    },
-    Case {
-        name: "a head that names wide second keys",
-        words: &["edit"],
-        input: &[
-            "xffffffffffffffff1020100300000000000000010061040000000000000001000000",
-            "050000000000000001000000620300000000000000010001\n",
-        ],
-        output: &["image x", PAIR, "\n"],
-        status: Status::Done,
-    },
-    Case {
-        name: "a head that is cut",
-        words: &["edit"],
-        input: &["xffffffffffffffff1010\n"],
-        output: &["error frame\n"],
-        status: Status::BadImage,
-    },
-    Case {
-        name: "a head that names no format",
-        words: &["edit"],
-        input: &["xffffffffffffffff100810", EMPTY, "\n"],
-        output: &["error frame\n"],
-        status: Status::BadImage,
-    },
-    Case {
-        name: "two bytes that a head names a wide list",
-        words: &["edit"],
-        input: &[
-            "xffffffffffffffff20101002000000000000000000",
-            "000000000000000000000000000000000000000000000000\n",
-        ],
-        output: &["error parse\n"],
-        status: Status::BadImage,
     },
     Case {
         name: "an empty list that is spelt as a count of 0",
@@ -339,5 +303,49 @@ const CASES: [Case; 40] = [
         input: &["x", EMPTY, "\n"],
         output: &["usage: zv COMMAND\n"],
         status: Status::Usage,
+    },
+];
+
+const HEAD_CASES: [Case; 5] = [
+    Case {
+        name: "a head that names no wide list",
+        words: &["edit"],
+        input: &["xffffffffffffffff101010", EMPTY, "\n"],
+        output: &["image x", EMPTY, "\n"],
+        status: Status::Done,
+    },
+    Case {
+        name: "a head that names wide second keys",
+        words: &["edit"],
+        input: &[
+            "xffffffffffffffff1020100300000000000000010061040000000000000001000000",
+            "050000000000000001000000620300000000000000010001\n",
+        ],
+        output: &["image x", PAIR, "\n"],
+        status: Status::Done,
+    },
+    Case {
+        name: "a head that is cut",
+        words: &["edit"],
+        input: &["xffffffffffffffff1010\n"],
+        output: &["error frame\n"],
+        status: Status::BadImage,
+    },
+    Case {
+        name: "a head that names no format",
+        words: &["edit"],
+        input: &["xffffffffffffffff100810", EMPTY, "\n"],
+        output: &["error frame\n"],
+        status: Status::BadImage,
+    },
+    Case {
+        name: "two bytes that a head names a wide list",
+        words: &["edit"],
+        input: &[
+            "xffffffffffffffff20101002000000000000000000",
+            "000000000000000000000000000000000000000000000000\n",
+        ],
+        output: &["error parse\n"],
+        status: Status::BadImage,
     },
 ];

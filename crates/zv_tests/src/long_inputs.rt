@@ -199,7 +199,8 @@ fn try_size(
     assert!(rt; answer.sink.taken().starts_with(&front));
 
     // Two digits for each byte, `new` and `image x`, and an LF behind each.
-    assert!(rt; answer.sink.taken().len() == 12 + 2 * size);
+    let digits = size.saturating_mul(2);
+    assert!(rt; answer.sink.taken().len() == digits.saturating_add(12));
     Ok(())
 }
 

@@ -1,5 +1,5 @@
 // Worked inputs, given to the program in pieces of several sizes.
-use crate::cases::{Case, cases};
+use crate::cases::{Case, cases, head_cases};
 use crate::changes::changes;
 use crate::looks::looks;
 use crate::props::props;
@@ -83,6 +83,11 @@ fn try_cases(rt: &impl Abort, alloc: Global, cases: &[Case]) -> Result<(), Fail>
 #[test]
 fn each_input_is_answered(rt: HostRuntime) -> Result<(), Fail> {
     try_cases(&rt, rt.alloc(), cases())
+}
+
+#[test]
+fn each_head_is_answered(rt: HostRuntime) -> Result<(), Fail> {
+    try_cases(&rt, rt.alloc(), head_cases())
 }
 
 #[test]
