@@ -2,10 +2,11 @@
 // and written as the parts of another image.
 ghost use Rattle.std.specs.Prelude.{◌≡◌, ◌+◌, IfErr, IfOk, OnErr, OnOk, length};
 ghost use Rattle.std.specs.Result.{result_err};
+ghost use Rattle.zv_map.specs.Flexes.{flex_settled};
 ghost use Rattle.zv_map2d.specs.Image.{Stands, by_bytes, fault, spelling_in, wides_of};
 ghost use Rattle.zv_map2d.specs.Room.{HasRoomFor, IsOwned, IsReady, SpendsFor};
 ghost use Rattle.zv_map2d.specs.Rows.{Rows};
-ghost use Rattle.zv_map2d.specs.Views.{bytes_of};
+ghost use Rattle.zv_map2d.specs.Views.{AreSettled, bytes_of};
 ghost use Rattle.zv_callers.specs.Images.{changed, with_entry, without};
 
 use std::alloc::Global;
@@ -155,14 +156,11 @@ pub fn change_image<'a>(
     }
 }
 
-/// The parts of the image that the table is stored as, which lie in the table's own bytes. Its
-/// lists are put into the formats that they need.
-pub fn stored_parts<'t>(table: &'t mut StoredTable<'_>) -> Parts<'t>
-    requires { IsReady table.old }
-    ensures parts { bytes_of result ≡ spelling_in (wides_of table.old.rows) table.old.rows }
-    ensures rows { table.new.rows ≡ table.old.rows }
-    ensures ready { IsReady table.new }
+/// The parts of the image that the table is stored as, which lie in the table's own bytes. The
+/// table was settled before, as [`settle`](zv_map2d::Map2dOver::settle) does after changes.
+pub fn stored_parts<'t>(table: &'t StoredTable<'_>) -> Parts<'t>
+    requires { AreSettled flex_settled flex_settled flex_settled table.now }
+    ensures { bytes_of result ≡ spelling_in (wides_of table.now.rows) table.now.rows }
 {
-    table.settle();
     table.canon_parts()
 }
