@@ -1,10 +1,9 @@
-// Records and other composed elements as keys and as values of maps, and as values of hash tables.
+// Records and other composed elements as keys and as values of maps.
 ghost use Rattle.std.specs.Prelude.{IsTrue};
 
 use std::alloc::Global;
 use std::process::Abort;
 use std::test::Fail;
-use zv_hashmap::{HashBytes, ZeroHashMap};
 use zv_map::ZeroMapKV;
 use zv_map1::ZeroMap;
 use zv_multi::{MultiFieldsULE, OptionVarULE, Tuple2VarULE, VarTupleULE};
@@ -113,82 +112,4 @@ fn records_of_bytes_are_values(rt: HostRuntime) -> Result<(), Fail> {
         &[4, 5],
         b"\x02\0\x02\0\0c\x01ab",
     )
-}
-
-// A table of entries answers each key, stored or not, as they do.
-fn are_answered<'a, K: ZeroMapKV<'a> + HashBytes, V: ZeroMapKV<'a>>(
-    rt: &impl Abort,
-    alloc: Global,
-    entries: &[Entry<'_>],
-    missing: &[u8],
-    values: &[u8],
-) -> Result<(), Fail>
-    requires key { IsTrue K.usable }
-    requires value { IsTrue V.usable }
-{
-    let mut pairs = Vec::new(alloc);
-    for bytes in entries {
-        pairs.push(entry::<K, V>(*bytes)?)?;
-    }
-    let table = ZeroHashMap::<'a, K, V>::try_from_pairs(alloc, &pairs)?;
-    assert!(rt; *table.values().bytes() == *values);
-    for (key, value) in &pairs {
-        let found = table.get(key);
-        assert!(rt; found.is_some_and(|found| *found.as_bytes() == *value.as_bytes()));
-    }
-    assert!(rt; table.get(&VarRef::<'_, K>::new(missing)?).is_none());
-    Ok(())
-}
-
-#[test]
-fn records_are_values_of_a_hash_table(rt: HostRuntime) -> Result<(), Fail> {
-    // The slots of the keys 0, 1 and 2 are 2, 0 and 1.
-    are_answered::<u32, Pair>(
-        &rt,
-        rt.alloc(),
-        &[
-            (&[0, 0, 0, 0], b"\x01a\x09"),
-            (&[1, 0, 0, 0], b"\x02aa"),
-            (&[2, 0, 0, 0], b"\x01b"),
-        ],
-        &[3, 0, 0, 0],
-        b"\x03\0\x03\0\x05\0\x02aa\x01b\x01a\x09",
-    )
-}
-
-#[test]
-fn composed_elements_are_values_of_a_hash_table(rt: HostRuntime) -> Result<(), Fail> {
-    are_answered::<u32, Named>(
-        &rt,
-        rt.alloc(),
-        &[(&[5, 0, 0, 0], b"\x02\0c")],
-        &[6, 0, 0, 0],
-        b"\x01\0\x02\0c",
-    )?;
-    are_answered::<u32, OptionalText>(
-        &rt,
-        rt.alloc(),
-        &[(&[5, 0, 0, 0], b"\0")],
-        &[6, 0, 0, 0],
-        b"\x01\0\0",
-    )
-}
-
-// The list of elements has these bytes.
-fn are_listed<K: VarULE>(rt: &impl Abort, elements: &[&[u8]], bytes: &[u8]) -> Result<(), Fail>
-    requires { IsTrue K.usable }
-{
-    let list = VarZeroVec16::<'_, K>::parse_bytes(bytes)?;
-    assert!(rt; list.len() == elements.len());
-    for (index, element) in elements.iter().enumerate() {
-        let found = list.get(index);
-        assert!(rt; found.is_some_and(|found| *found.as_bytes() == **element));
-    }
-    Ok(())
-}
-
-#[test]
-fn composed_elements_lie_in_lists(rt: HostRuntime) -> Result<(), Fail> {
-    are_listed::<OptionalText>(&rt, &[b"\0", b"\x01a"], b"\x02\0\x01\0\0\x01a")?;
-    are_listed::<Named>(&rt, &[b"\x01\0a", b"\x02\0"], b"\x02\0\x03\0\x01\0a\x02\0")
 }
