@@ -1,7 +1,9 @@
 // What is known of languages: a record for each, whose fields are read where they lie.
-ghost use Rattle.std.specs.Prelude.{◌≡◌, [], ◌∷◌, IfErr, None, OnErr, OnOk, Some, map, option_map};
+ghost use Rattle.std.specs.Prelude.{◌≡◌, [], ◌∷◌, OnErr, OnOk, map, option_map};
+ghost use Rattle.zv_map1.specs.Views.{insert_entry};
 ghost use Rattle.zv_ule.specs.Views.{element_of};
-ghost use Rattle.zv_var.specs.Serialize.{serialized};
+ghost use Rattle.zv_var.specs.Serialize.{lengthless, serialized};
+ghost use Rattle.zv_map2d.specs.Image.{by_bytes};
 ghost use Rattle.zv_var.specs.Views.{bytes_of};
 ghost use Rattle.zv_multi.specs.Records.{field_at};
 ghost use Rattle.zv_callers.specs.Languages.{fields_of};
@@ -48,8 +50,9 @@ pub fn set_language(
     script: &str,
     regions: &[&str],
 ) -> Result<(), MapError>
-    ensures fields { OnOk result (fields_of table.new.pairs language.now ≡
-        Some (name.now ∷ script.now ∷ serialized 2 (map (λ r. r.now) regions.now) ∷ [])) }
+    ensures record { OnOk result (table.new.pairs ≡ insert_entry by_bytes table.old.pairs
+        language.now (lengthless 2
+        (name.now ∷ script.now ∷ serialized 2 (map (λ r. r.now) regions.now) ∷ []))) }
     ensures err { OnErr result (table.new.pairs ≡ table.old.pairs) }
 {
     table.insert_var_v(alloc, &language, &(name, script, regions))?;
