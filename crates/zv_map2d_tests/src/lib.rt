@@ -4,10 +4,6 @@
 #[cfg(test)]
 mod defaults;
 #[cfg(test)]
-mod images;
-#[cfg(test)]
-mod languages;
-#[cfg(test)]
 mod look_ups;
 #[cfg(test)]
 mod maps;
@@ -15,7 +11,5 @@ mod maps;
 mod narrow;
 #[cfg(test)]
 mod reads;
-#[cfg(test)]
-mod regions;
 #[cfg(test)]
 mod wide;

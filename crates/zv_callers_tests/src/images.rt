@@ -1,4 +1,5 @@
 // A table that is stored as an image, by the calls of its own crate.
+ghost use Rattle.std.specs.Prelude.{IfOk};
 ghost use Rattle.zv_map2d.specs.Room.{IsReady};
 
 use std::alloc::Global;
@@ -25,7 +26,9 @@ fn changed(
     alloc: Global,
     image: &'static [u8],
     value: &[u8],
-) -> Result<Result<StoredTable<'static>, Map2dError>, EditError> {
+) -> Result<Result<StoredTable<'static>, Map2dError>, EditError>
+    ensures { IfOk result (λ outcome. IfOk outcome IsReady) }
+{
     let first = Entry {
         keys: keys("a", "c"),
         value: &[2, 2],
@@ -46,6 +49,7 @@ fn changed(
 fn is_stored(rt: &impl Abort, table: &mut StoredTable<'_>)
     requires { IsReady table.old }
 {
+    table.settle();
     let parts = stored_parts(table);
     assert!(rt; parts.keys0 == b"\x02\0\x01\0ad".as_slice());
     assert!(rt; parts.joiner == b"\x01\0\0\0\x02\0\0\0".as_slice());
@@ -76,7 +80,8 @@ fn a_long_value_makes_a_list_wide(rt: HostRuntime) -> Result<(), Fail> {
     long.resize(65_530, 3)?;
     match changed(alloc, ONE_PAIR, &long)? {
         Ok(mut table) => {
-            let parts = stored_parts(&mut table);
+            table.settle();
+            let parts = stored_parts(&table);
             assert!(rt; parts.keys1 == b"\x02\0\x01\0ce".as_slice());
             assert!(rt; parts.values.len() == 65_540);
             assert!(rt;

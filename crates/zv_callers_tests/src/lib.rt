@@ -1,0 +1,9 @@
+//! Tests of the callers' tables, by the calls of their own crate.
+#![tactic(auto)]
+
+#[cfg(test)]
+mod images;
+#[cfg(test)]
+mod languages;
+#[cfg(test)]
+mod regions;
