@@ -20,7 +20,7 @@ fn a_table_of_languages(rt: HostRuntime) -> Result<(), Fail> {
     set_language(&mut table, alloc, "la", "Latin", "Latn", &[])?;
     set_language(&mut table, alloc, "sd", "Sindhi", "Arab", &["PK", "IN"])?;
     has(&rt, &table, "sd", "Arab", b"\x02\0\x02\0PKIN");
-    has(&rt, &table, "la", "Latn", b"");
+    has(&rt, &table, "la", "Latn", b"\0\0");
     assert!(rt; script(&table, "de").is_none() && regions(&table, "de").is_none());
     Ok(())
 }
