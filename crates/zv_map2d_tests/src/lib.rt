@@ -8,8 +8,4 @@ mod look_ups;
 #[cfg(test)]
 mod maps;
 #[cfg(test)]
-mod narrow;
-#[cfg(test)]
 mod reads;
-#[cfg(test)]
-mod wide;

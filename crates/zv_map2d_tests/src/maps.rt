@@ -3,11 +3,8 @@ use std::alloc::Global;
 use std::process::Abort;
 use std::test::Fail;
 use zv_map::{MutableZeroVecLike, ZeroMapKV, ZvContainer};
-use zv_map2d::{Iter1, Map2dError, Map2dOver, ZeroMap2d};
+use zv_map2d::{Iter1, Map2dError, Map2dOver};
 use zv_ule::{SliceULE, StrULE, VarBox, VarRef};
-
-// A map from a number and a text to a text.
-type Texts<'a> = ZeroMap2d<'a, u16, StrULE, StrULE>;
 
 type Of<'a, K> = <K as ZeroMapKV<'a>>::Container;
 
@@ -201,14 +198,19 @@ fn change_a_map<M: TextMap>(rt: &impl Abort, alloc: Global, first: &[Change]) ->
 }
 
 // The four rows are put, and in another map appended.
-fn come_and_go<M: TextMap>(rt: &impl Abort, alloc: Global) -> Result<(), Fail> {
-    change_a_map::<M>(rt, alloc, &PUTS)?;
-    change_a_map::<M>(rt, alloc, &APPENDS)
+fn come_and_go<'a, C0, C1, D>(rt: &impl Abort, alloc: Global) -> Result<(), Fail>
+where
+    C0: MutableZeroVecLike<'a, u16>,
+    C1: MutableZeroVecLike<'a, StrULE>,
+    D: MutableZeroVecLike<'a, StrULE, OwnedType = VarBox<StrULE>>,
+{
+    change_a_map::<Map2dOver<'a, u16, StrULE, StrULE, C0, C1, D>>(rt, alloc, &PUTS)?;
+    change_a_map::<Map2dOver<'a, u16, StrULE, StrULE, C0, C1, D>>(rt, alloc, &APPENDS)
 }
 
 #[test]
 fn rows_come_and_go_put_or_appended(rt: HostRuntime) -> Result<(), Fail> {
-    come_and_go::<Texts<'_>>(&rt, rt.alloc())
+    come_and_go::<Of<'_, u16>, Of<'_, StrULE>, Of<'_, StrULE>>(&rt, rt.alloc())
 }
 
 // ---- a map from a text and a number to bytes
