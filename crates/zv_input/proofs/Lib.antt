@@ -1,6 +1,7 @@
 mod Worked
 pub mod Common
 pub mod Cutting
+pub mod Decimals
 pub mod Decoding
 pub mod Fields
 pub mod SizesOfPuts

@@ -2,6 +2,7 @@
 use Rattle.zv_input.proofs.Common.{◌≡◌, ◌∷◌, [], ◌++◌, ℕ, List, refl, codes, Some, None, replicate, map, Get, Put, Del, Row}
 use Rattle.zv_input.proofs.Common.{total_size, lines, words, command_of_words, field, key}
 use Rattle.std.specs.Str.{is_utf8, chars}
+use Rattle.zv_input.specs.Numbers.{number}
 use Rattle.hex.specs.Hex.{decode_pairs}
 use Rattle.zv_input.specs.declared.commands.TheConstants.{MAX_COMMANDS}
 
@@ -56,3 +57,8 @@ sizes = refl
 
 limit : MAX_COMMANDS ≡ 16777216
 limit = refl
+
+-- none, a leading zero, a sign, the limit and one above it
+numbers : Gives (number 4000)
+    (([], None) ∷ (codes "0", Some 0) ∷ (codes "00", None) ∷ (codes "+1", None) ∷ (codes "4000", Some 4000) ∷ (codes "4001", None) ∷ [])
+numbers = refl

@@ -10,6 +10,7 @@ mod compact;
 mod digits;
 mod field;
 mod lines;
+mod numbers;
 mod sizes;
 
 pub use command::{Command, KeyText, ValueBytes};
@@ -17,4 +18,5 @@ pub use command_line::read_command;
 pub use commands::{Commands, CommandsError, MAX_COMMANDS};
 pub use field::{read_field, read_key};
 pub use lines::split_at_byte;
+pub use numbers::read_number;
 pub use sizes::PutSizes;

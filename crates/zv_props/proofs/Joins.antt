@@ -1,19 +1,8 @@
--- Rows behind rows.
-use Rattle.zv_props.proofs.Common.{◌≡◌, ℕ, ◌+◌, ◌<◌, ◌≤◌, ⊤, List, [], ◌∷◌, ◌++◌, length, Bool, true, false, refl, sym, ◌∙◌, ap, arith, nat_tests}
-use Rattle.zv_props.proofs.Common.{BeginFrom, IsProper, MayFollow, Row, value_at}
-use Rattle.zv_props.proofs.Answers.{follow_from, none_below, outside}
-use Rattle.std.specs.Prelude.{if◌then◌else◌}
-use Rattle.zv_props.specs.Joining.{join, join_two, touch}
-
--- all rows end below a code point
-abbrev pub EndBelow : ℕ → List Row → Type 0
-EndBelow c [] = ⊤
-EndBelow c (r ∷ rows) = (r.1 < c) × EndBelow c rows
-
-pub join_nil : (xs : List Row) → join xs [] ≡ xs
-join_nil [] = refl
-join_nil (x ∷ []) = refl
-join_nil (x ∷ z ∷ xs) = ap (λ r. x ∷ r) (join_nil (z ∷ xs))
+-- A row before others.
+use Rattle.zv_props.proofs.Common.{◌≡◌, ℕ, ◌+◌, ◌<◌, ◌≤◌, List, [], ◌∷◌, ◌++◌, Bool, true, false, refl, sym, arith, nat_tests, cases_lt, inl, inr}
+use Rattle.zv_props.proofs.Common.{IsProper, IsRow, MayFollow, Row, value_at, if◌then◌else◌}
+use Rattle.zv_props.proofs.Answers.{BeginFrom}
+use Rattle.zv_props.specs.Joining.{add, touch}
 
 touch_true : (r s : Row) → touch r s ≡ true → (s.0 ≡ r.1 + 1) × (s.2 ≡ r.2)
 touch_true r s h = grind (arith, nat_tests)
@@ -28,93 +17,44 @@ module _ (x y : Row) (ys : List Row) (P : List Row → Type 0) (yes : y.0 ≡ x.
   by_touch true e = let t = touch_true x y e in yes t.0 t.1
   by_touch false e = no (touch_false x y e)
 
-  two : P (join_two x y ys)
+  two : P (add x (y ∷ ys))
   two = by_touch (touch x y) refl
 
--- ---- where the parts may be taken apart
+pub add_begins : (r : Row) (rows : List Row) → BeginFrom r.0 (add r rows)
+add_begins r [] = omega arith
+add_begins r (s ∷ rows) = two r s rows (BeginFrom r.0) (λ at same. omega arith) (λ apart. omega arith)
 
-join_front : (xs : List Row) (z : Row) (zs ys : List Row) → join (xs ++ z ∷ zs) ys ≡ xs ++ join (z ∷ zs) ys
-join_front [] z zs ys = refl
-join_front (x ∷ []) z zs ys = refl
-join_front (x ∷ w ∷ xs) z zs ys = ap (λ r. x ∷ r) (join_front (w ∷ xs) z zs ys)
+add_follows : (start value : ℕ) (r : Row) (rows : List Row) → MayFollow start value (r ∷ rows) → MayFollow start value (add r rows)
+add_follows start value r [] follows = follows
+add_follows start value r (s ∷ rows) follows = two r s rows (MayFollow start value) (λ at same. follows) (λ apart. follows)
 
-pub join_after : (xs zs ys : List Row) → 0 < length zs → join (xs ++ zs) ys ≡ xs ++ join zs ys
-join_after xs [] ys some = absurd (omega arith)
-join_after xs (z ∷ zs) ys some = join_front xs z zs ys
+pub add_proper : (r : Row) (rows : List Row) → IsRow r → IsProper rows → BeginFrom (r.1 + 1) rows → IsProper (add r rows)
+add_proper r [] is proper from = (is, tt, tt)
+add_proper r (s ∷ rows) is proper from =
+    two r s rows IsProper
+    (λ at same. (record { order = omega (arith, is.order, proper.0.order); top = proper.0.top; some = is.some }, rw (← same) proper.1, proper.2))
+    (λ apart. (is, (from, λ same. elim (cases_lt (r.1 + 1) s.0) [ inl lt ↦ lt | inr le ↦ absurd (apart (omega (arith, from)) (sym same)) ]), proper))
 
-pub join_some : (z : Row) (zs ys : List Row) → 0 < length (join (z ∷ zs) ys)
-join_some z [] [] = omega arith
-join_some z [] (y ∷ ys) = two z y ys (λ r. 0 < length r) (λ at same. omega arith) (λ apart. omega arith)
-join_some z (w ∷ zs) ys = omega arith
+-- a row that begins below those behind it answers as one of them
+pub add_value : (r : Row) (rows : List Row) (c : ℕ) → r.0 ≤ r.1 → IsProper rows → value_at (add r rows) c ≡ value_at (r ∷ rows) c
+add_value r [] c order proper = refl
+add_value r (s ∷ rows) c order proper =
+    let order' : s.0 ≤ s.1 = proper.0.order in
+    two r s rows (λ t. value_at t c ≡ value_at (r ∷ s ∷ rows) c) (λ at same. grind (arith, nat_tests)) (λ apart. refl)
 
-pub join_before : (xs : List Row) (y : Row) (ys zs : List Row) → join xs (y ∷ (ys ++ zs)) ≡ join xs (y ∷ ys) ++ zs
-join_before [] y ys zs = refl
-join_before (x ∷ []) y ys zs = both (touch x y) refl where
-  both : (b : Bool) → touch x y ≡ b → (if b then (x.0, y.1, x.2) ∷ (ys ++ zs) else x ∷ y ∷ (ys ++ zs)) ≡ (if b then (x.0, y.1, x.2) ∷ ys else x ∷ y ∷ ys) ++ zs
-  both true e = refl
-  both false e = refl
-join_before (x ∷ w ∷ xs) y ys zs = ap (λ r. x ∷ r) (join_before (w ∷ xs) y ys zs)
+-- rows that begin further behind are not touched
+pub add_before : (r : Row) (xs ys : List Row) → BeginFrom (r.1 + 2) ys → add r xs ++ ys ≡ add r (xs ++ ys)
+add_before r [] [] from = refl
+add_before r [] (y ∷ ys) from = two r y ys (λ t. r ∷ y ∷ ys ≡ t) (λ at same. absurd (omega (arith, from))) (λ apart. refl)
+add_before r (x ∷ xs) ys from = both (touch r x)
+  where
+    both : (b : Bool) → (if b then (r.0, x.1, r.2) ∷ xs else r ∷ x ∷ xs) ++ ys ≡ (if b then (r.0, x.1, r.2) ∷ (xs ++ ys) else r ∷ x ∷ (xs ++ ys))
+    both true = refl
+    both false = refl
 
-pub join_apart : (c : ℕ) (xs ys : List Row) → EndBelow c xs → BeginFrom (c + 1) ys → join xs ys ≡ xs ++ ys
-join_apart c [] ys ends from = refl
-join_apart c (x ∷ []) [] ends from = refl
-join_apart c (x ∷ []) (y ∷ ys) ends from = two x y ys (λ r. r ≡ x ∷ y ∷ ys) (λ at same. absurd (omega (arith, ends.0, from))) (λ apart. refl)
-join_apart c (x ∷ w ∷ xs) ys ends from = ap (λ r. x ∷ r) (join_apart c (w ∷ xs) ys ends.1 from)
-
--- ---- what joined rows are
-
-join_follows : (start value : ℕ) (z : Row) (xs ys : List Row) → MayFollow start value (z ∷ xs) → MayFollow start value (join (z ∷ xs) ys)
-join_follows start value z [] [] follows = follows
-join_follows start value z [] (y ∷ ys) follows = two z y ys (MayFollow start value) (λ at same. follows) (λ apart. follows)
-join_follows start value z (x ∷ xs) ys follows = follows
-
-pub join_ends : (c d : ℕ) (xs ys : List Row) → c ≤ d → EndBelow c xs → EndBelow d ys → EndBelow d (join xs ys)
-join_ends c d [] ys le ends ends' = ends'
-join_ends c d (x ∷ []) [] le ends ends' = (omega (arith, ends.0), tt)
-join_ends c d (x ∷ []) (y ∷ ys) le ends ends' =
-    two x y ys (EndBelow d) (λ at same. (omega (arith, ends'.0), ends'.1)) (λ apart. (omega (arith, ends.0), ends'))
-join_ends c d (x ∷ w ∷ xs) ys le ends ends' = (omega (arith, ends.0), join_ends c d (w ∷ xs) ys le ends.1 ends')
-
-module _ (c : ℕ) where
-  pub join_proper : (xs ys : List Row) → IsProper xs → IsProper ys → EndBelow c xs → BeginFrom c ys → IsProper (join xs ys)
-  join_proper [] ys left right ends from = right
-  join_proper (x ∷ []) [] left right ends from = left
-  join_proper (x ∷ []) (y ∷ ys) left right ends from =
-      two x y ys IsProper
-      (λ at same. (
-        record { order = omega (arith, left.0.order, right.0.order); top = right.0.top; some = left.0.some },
-        rw (← same) right.1,
-        right.2,
-      ))
-      (λ apart. (
-        left.0,
-        (
-          omega (arith, ends.0, from),
-          λ same.
-              let other : y.0 ≡ x.1 + 1 → ⊥ = λ at. apart at (sym same) in omega (arith, ends.0, from, other),
-        ),
-        right,
-      ))
-  join_proper (x ∷ w ∷ xs) ys left right ends from =
-      (left.0, join_follows (x.1 + 1) x.2 w xs ys left.1, join_proper (w ∷ xs) ys left.2 right ends.1 from)
-
-  -- below the code point the first rows answer
-  pub join_below : (xs ys : List Row) (d : ℕ) → IsProper ys → EndBelow c xs → BeginFrom c ys → d < c → value_at (join xs ys) d ≡ value_at xs d
-  join_below [] ys d right ends from lt = none_below d c ys lt right from
-  join_below (x ∷ []) [] d right ends from lt = refl
-  join_below (x ∷ []) (y ∷ ys) d right ends from lt =
-      let none : value_at ys d ≡ 0 = none_below d (y.1 + 1) ys (omega (arith, from, right.0.order)) right.2 (follow_from (y.1 + 1) y.2 ys right.1) in
-      let none' : value_at (y ∷ ys) d ≡ 0 = none_below d c (y ∷ ys) lt right from in
-      two x y ys (λ r. value_at r d ≡ value_at (x ∷ []) d) (λ at same. grind (arith, nat_tests)) (λ apart. grind (arith, nat_tests))
-  join_below (x ∷ w ∷ xs) ys d right ends from lt = rw (join_below (w ∷ xs) ys d right ends.1 from lt) refl
-
-  -- and from it on the others
-  pub join_above : (xs ys : List Row) (d : ℕ) → IsProper xs → EndBelow c xs → BeginFrom c ys → c ≤ d → value_at (join xs ys) d ≡ value_at ys d
-  join_above [] ys d left ends from le = refl
-  join_above (x ∷ []) [] d left ends from le = outside x [] d (λ low high. omega (arith, ends.0))
-  join_above (x ∷ []) (y ∷ ys) d left ends from le =
-      let first : x.0 ≤ x.1 = left.0.order in
-      let last : x.1 < c = ends.0 in
-      two x y ys (λ r. value_at r d ≡ value_at (y ∷ ys) d) (λ at same. grind (arith, nat_tests)) (λ apart. grind (arith, nat_tests))
-  join_above (x ∷ w ∷ xs) ys d left ends from le =
-      outside x (join (w ∷ xs) ys) d (λ low high. omega (arith, ends.0)) ∙ join_above (w ∷ xs) ys d left.2 ends.1 from le
+-- a row of a proper table gives way to another one of its beginning and value, and what is behind it to other rows
+pub replace : (xs : List Row) (y z : Row) (ys zs : List Row) → z.0 ≡ y.0 → z.2 ≡ y.2 → IsProper (xs ++ y ∷ ys) → IsProper (add z zs) →
+    IsProper (xs ++ add z zs)
+replace [] y z ys zs first same proper new = new
+replace (x ∷ []) y z ys zs first same proper new = (proper.0, add_follows (x.1 + 1) x.2 z zs (rw (first, same) proper.1), new)
+replace (x ∷ w ∷ xs) y z ys zs first same proper new = (proper.0, proper.1, replace (w ∷ xs) y z ys zs first same proper.2 new)

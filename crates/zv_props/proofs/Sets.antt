@@ -1,9 +1,8 @@
 -- Ranges that may be set, one after another.
-use Rattle.zv_props.proofs.Common.{◌≡◌, ℕ, ◌<◌, ◌≤◌, List, length, None, arith, nat_tests, false, Row, row_at}
+use Rattle.zv_props.proofs.Common.{◌≡◌, ℕ, ◌<◌, ◌≤◌, List, length, None, arith, nat_tests, false, Row, row_at, max_code_point}
 use Rattle.std.specs.Prelude.{position}
 use Rattle.std.proofs.lemmas.List.Sums.{fails_before_first}
 use Rattle.zv_props.specs.Sets.{is_bad}
-use Rattle.zv_props.specs.Tables.{max_code_point}
 
 good : (r : Row) → is_bad r ≡ false → (r.0 ≤ r.1) × (r.1 ≤ max_code_point)
 good r h = grind (arith, nat_tests)

@@ -1,9 +1,6 @@
 -- Proper tables with the same answers are the same.
-use Rattle.zv_props.proofs.Common.{◌≡◌, ℕ, ◌+◌, ◌<◌, ◌≤◌, List, [], ◌∷◌, refl, sym, ◌∙◌, arith}
-use Rattle.zv_props.proofs.Common.{AnswerAlike, IsProper, MayFollow, Row, value_at}
-use Rattle.zv_props.specs.Tables.{max_code_point}
-use Rattle.std.proofs.lemmas.Bool.{cases_lt}
-use Rattle.std.proofs.Common.{inl, inr}
+use Rattle.zv_props.proofs.Common.{◌≡◌, ℕ, ◌+◌, ◌<◌, ◌≤◌, List, [], ◌∷◌, refl, sym, ◌∙◌, arith, AnswerAlike, IsProper, MayFollow, Row, value_at, max_code_point}
+use Rattle.zv_props.proofs.Common.{cases_lt, inl, inr}
 use Rattle.zv_props.proofs.Answers.{follow_from, inside, none_below, outside}
 
 -- rows that may follow a range with a value have another one right behind it
@@ -27,11 +24,9 @@ module _ (x y : Row) (xs ys : List Row) (left : IsProper (x ∷ xs)) (right : Is
     (same : (c : ℕ) → value_at (x ∷ xs) c ≡ value_at (y ∷ ys) c) where
   first : y.0 ≤ x.0
   first = elim (cases_lt x.0 y.0) [
-    | inl below ↦ absurd (omega (
-      arith,
-      left.0.some,
-      sym (inside x xs x.0 (omega arith) left.0.order) ∙ (same x.0 ∙ none_below x.0 y.0 (y ∷ ys) below right (omega arith)),
-    ))
+    | inl below ↦
+        let none = sym (inside x xs x.0 (omega arith) left.0.order) ∙ (same x.0 ∙ none_below x.0 y.0 (y ∷ ys) below right (omega arith)) in
+        absurd (omega (arith, left.0.some, none))
     | inr from ↦ from
   ]
 

@@ -1,6 +1,7 @@
 -- Why bytes are no table.
 use Rattle.std.specs.Prelude.{ℕ, ◌+◌, ◌&&◌, ◌==◌, Bool, nat_le, nat_lt, List, [], ◌∷◌}
 use Rattle.std.specs.Prelude.{Option, Some, None, if◌then◌else◌}
+use Rattle.std.specs.Option.{option_or}
 use Rattle.zv_ule.specs.declared.error.UleError.{UleError}
 use Rattle.zv_props.specs.Tables.{Row, max_code_point}
 use Rattle.zv_props.specs.Stored.{list_fault, rows_of}
@@ -19,16 +20,11 @@ row_fault place start value r =
     else if start == r.0 && r.2 == value then Some (Join place) else None)
     else Some (BadRow place)
 
--- the first of two errors
-abbrev pub or_fault : Option PropsError → Option PropsError → Option PropsError
-or_fault None second = second
-or_fault (Some e) second = Some e
-
 -- the error of the least row that has one; the first row stands at that place
 abbrev pub rows_fault : ℕ → ℕ → ℕ → List Row → Option PropsError
 rows_fault place start value [] = None
 rows_fault place start value (r ∷ rows) =
-    or_fault (row_fault place start value r) (rows_fault (place + 1) (r.1 + 1) r.2 rows)
+    option_or (row_fault place start value r) (rows_fault (place + 1) (r.1 + 1) r.2 rows)
 
 -- the error of bytes that are no list, or else that of the list's rows
 abbrev pub fault_or : Option UleError → Option PropsError → Option PropsError

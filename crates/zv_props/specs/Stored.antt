@@ -28,10 +28,13 @@ table_bytes rows = flat_map chunk rows
 abbrev pub rows_of : List ℕ → List Row
 rows_of bytes = values_of 10 row bytes
 
+-- any ten bytes are a row
+abbrev pub chunk_fault : List ℕ → Option UleError
+chunk_fault = pair_fault 4 (λ _. None) (pair_fault 4 (λ _. None) (λ _. None))
+
 -- the error of bytes that are no rows: their number is no multiple of ten
 abbrev pub list_fault : List ℕ → Option UleError
-list_fault bytes =
-    chunks_fault Tuple3 10 (pair_fault 4 (λ _. None) (pair_fault 4 (λ _. None) (λ _. None))) bytes
+list_fault bytes = chunks_fault Tuple3 10 chunk_fault bytes
 
 -- a row fits into its bytes
 abbrev pub IsStored : Row → Type 0

@@ -1,6 +1,5 @@
 // Tables from ranges.
-ghost use Rattle.std.specs.Prelude.{◌≡◌, ℕ, ◌↔◌, None, Some, IfOk, OnOk, IsErrOf, position};
-ghost use Rattle.std.specs.Prelude.{reverse};
+ghost use Rattle.std.specs.Prelude.{◌≡◌, ℕ, ◌↔◌, None, Some, IfOk, IsErrOf, position, reverse};
 ghost use Rattle.zv_props.specs.Sets.{is_bad};
 ghost use Rattle.zv_props.specs.Tables.{AnswerAlike, IsProper};
 ghost use Rattle.zv_props.specs.declared.error.BuildError.{BuildError};
@@ -18,6 +17,7 @@ fn first_bad(sets: &[(u32, u32, u16)]) -> Option<usize>
 }
 
 /// The table that ranges leave, one set after another.
+#[tactic(auto, using(crate::proofs::Sets::all_good))]
 fn build_good(alloc: Global, sets: &[(u32, u32, u16)]) -> Result<Props<'static>, NoMemory>
     requires { position is_bad sets.now ≡ None }
     ensures { IfOk result (λ t. AnswerAlike t (reverse sets.now)) }

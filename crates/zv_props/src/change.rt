@@ -1,9 +1,8 @@
 // Changes of a table.
 ghost use Rattle.std.specs.Prelude.{◌≡◌, ◌+◌, ◌*◌, ◌<◌, ◌≤◌, ◌∷◌, ◌++◌, length, take, drop};
 ghost use Rattle.std.specs.Prelude.{None, OnOk, OnErr};
-ghost use Rattle.zv_props.specs.Changes.{left_part, middle, range_row, right_part};
+ghost use Rattle.zv_props.specs.Changes.{middle, right_part, with_left, with_range};
 ghost use Rattle.zv_props.specs.Contents.{bytes_in};
-ghost use Rattle.zv_props.specs.Joining.{join};
 ghost use Rattle.zv_props.specs.Places.{IsPlace};
 ghost use Rattle.zv_props.specs.Stored.{list_fault, rows_of};
 ghost use Rattle.zv_props.specs.Tables.{AnswerAlike, IsProper, max_code_point};
@@ -16,47 +15,45 @@ use std::alloc::Global;
 use std::marker::Brand;
 use std::sync::ledger::Blank;
 use zv_fixed::ZeroSlice;
-use zv_ule::{NoMemory, all_read};
+use zv_ule::NoMemory;
 
-/// What is left below a range of the row before a place, if there is one.
-fn part_below(rows: ZeroSlice<'_, Row>, place: usize, first: u32) -> FewRows
+/// What is left above a range of the row before a place, if there is one.
+fn part_above(rows: ZeroSlice<'_, Row>, place: usize, last: u32) -> FewRows
     requires place { place ≤ length (rows_of rows.bytes.now) }
-    requires some { 0 < place → 0 < first }
-    ensures { result ≡ left_part (rows_of rows.entry.bytes.now) place first }
+    requires top { last ≤ max_code_point }
+    ensures rows { result ≡ right_part (rows_of rows.entry.bytes.now) place last }
+    ensures len { length result ≤ 1 }
 {
     let mut few = FewRows::new();
     if place > 0 {
-        let (begin, end, value) = rows.at(place - 1);
-        few.push((begin, end.min(first - 1), value));
+        let (_, end, value) = rows.at(place - 1);
+        if last < end {
+            few.add((last + 1, end, value));
+        }
     }
     few
 }
 
-/// Puts a range with its value behind the others. The value 0 needs no row.
-#[tactic(auto, using(crate::proofs::Joins::join_nil))]
-fn push_range(few: &mut FewRows, range: Row)
+/// Puts a range with its value before the others. The value 0 needs no row.
+fn add_range(few: &mut FewRows, range: Row)
     requires { length few.old < 3 }
-    ensures rows { few.new ≡ join few.old (range_row range) }
+    ensures rows { few.new ≡ with_range range few.old }
     ensures len { length few.new ≤ length few.old + 1 }
 {
     if range.2 > 0 {
-        few.push(range);
+        few.add(range);
     }
 }
 
-/// Puts what is left above a range of the row before a place, if there is one, behind the others.
-#[tactic(auto, using(crate::proofs::Joins::join_nil))]
-fn push_above(few: &mut FewRows, rows: ZeroSlice<'_, Row>, place: usize, last: u32)
+/// Puts what is left below a range of the row before a place, if there is one, before the others.
+fn add_below(few: &mut FewRows, rows: ZeroSlice<'_, Row>, place: usize, first: u32)
     requires few { length few.old < 3 }
     requires place { place ≤ length (rows_of rows.bytes.now) }
-    requires top { last ≤ max_code_point }
-    ensures { few.new ≡ join few.old (right_part (rows_of rows.entry.bytes.now) place last) }
+    ensures { few.new ≡ with_left (rows_of rows.entry.bytes.now) place first few.old }
 {
     if place > 0 {
-        let (_, end, value) = rows.at(place - 1);
-        if last < end {
-            few.push((last + 1, end, value));
-        }
+        let (begin, end, value) = rows.at(place - 1);
+        few.add((begin, end.min(first.saturating_sub(1)), value));
     }
 }
 
@@ -64,13 +61,12 @@ fn push_above(few: &mut FewRows, rows: ZeroSlice<'_, Row>, place: usize, last: u
 fn middle_rows(rows: ZeroSlice<'_, Row>, low: usize, high: usize, range: Row) -> FewRows
     requires low { low ≤ length (rows_of rows.bytes.now) }
     requires high { high ≤ length (rows_of rows.bytes.now) }
-    requires some { 0 < low → 0 < range.0 }
     requires top { range.1 ≤ max_code_point }
     ensures { result ≡ middle (rows_of rows.entry.bytes.now) low high range }
 {
-    let mut few = part_below(rows, low, range.0);
-    push_range(&mut few, range);
-    push_above(&mut few, rows, high, range.1);
+    let mut few = part_above(rows, high, range.1);
+    add_range(&mut few, range);
+    add_below(&mut few, rows, low, range.0);
     few
 }
 
@@ -98,6 +94,7 @@ fn offset(bytes: &[u8], place: usize) -> usize
 }
 
 /// Puts rows in place of those from one place up to another.
+#[tactic(auto, using(crate::proofs::Spliced::spliced))]
 fn put_rows(
     bytes: &mut TableBytes<'_>,
     alloc: Global,
@@ -108,19 +105,18 @@ fn put_rows(
     requires spells { list_fault (bytes_in bytes.old) ≡ None }
     requires order { start ≤ end }
     requires place { end ≤ length (rows_of (bytes_in bytes.old)) }
-    ensures ok { OnOk result (rows_of (bytes_in bytes.new)
-        ≡ take start (rows_of (bytes_in bytes.old))
-        ++ (few.now ++ drop end (rows_of (bytes_in bytes.old)))) }
+    ensures ok { OnOk result (let rows = rows_of (bytes_in bytes.old) in
+        rows_of (bytes_in bytes.new) ≡ take start rows ++ (few.now ++ drop end rows)) }
     ensures spells { list_fault (bytes_in bytes.new) ≡ None }
     ensures err { OnErr result (bytes_in bytes.new ≡ bytes_in bytes.old) }
 {
-    all_read::<Row>(bytes.bytes());
     let from = offset(bytes.bytes(), start);
     let to = offset(bytes.bytes(), end);
     let mut buffer = [0; 30];
     let added = &mut buffer[..few.len() * 10];
     few.write(added);
-    bytes.replace(alloc, from, to, added)
+    bytes.replace(alloc, from, to, added)?;
+    Ok(())
 }
 
 impl Props<'_> {
@@ -141,6 +137,7 @@ impl Props<'_> {
         let low = place_before(rows, first);
         let high = place_before(rows, last + 2);
         let few = middle_rows(rows, low, high, (first, last, value));
-        put_rows(&mut self.bytes, alloc, low.saturating_sub(1), high, &few)
+        put_rows(&mut self.bytes, alloc, low.saturating_sub(1), high, &few)?;
+        Ok(())
     }
 }

@@ -1,29 +1,29 @@
 // The rows that a change writes.
-ghost use Rattle.std.specs.Prelude.{◌≡◌, ◌+◌, ◌*◌, ◌<◌, ◌≤◌, [], ◌∷◌, length, take};
+ghost use Rattle.std.specs.Prelude.{◌≡◌, ◌+◌, ◌*◌, ◌<◌, ◌≤◌, [], ◌∷◌, drop, length};
 ghost use Rattle.std.specs.List.{AllByRecursion};
-ghost use Rattle.zv_props.specs.Joining.{join};
+ghost use Rattle.zv_props.specs.Joining.{add};
 ghost use Rattle.zv_props.specs.Stored.{IsStored, table_bytes};
 
 use crate::table::Row;
 use std::marker::Model;
 use zv_ule::store;
 
-/// At most three rows.
+/// At most three rows, put together from the last to the first.
 #[derive(Drop)]
 pub struct FewRows {
     rows: [Row; 3],
-    count: usize,
+    start: usize,
 }
 
 impl Model for FewRows {
-    ghost use Rattle.std.specs.Prelude.{◌≡◌, ◌≤◌, List, length, take};
+    ghost use Rattle.std.specs.Prelude.{◌≡◌, ◌≤◌, List, drop, length};
     ghost use Rattle.zv_props.specs.Tables.{Row};
 
     ghost Value = { List Row };
 
-    ghost view = { λ f. take f.count f.rows };
+    ghost view = { λ f. drop f.start f.rows };
 
-    ghost invariant = { λ f. (f.count ≤ 3) × (length f.rows ≡ 3) };
+    ghost invariant = { λ f. (f.start ≤ 3) × (length f.rows ≡ 3) };
 }
 
 impl FewRows {
@@ -33,7 +33,7 @@ impl FewRows {
     {
         FewRows {
             rows: [(0, 0, 0); 3],
-            count: 0,
+            start: 3,
         }
     }
 
@@ -42,26 +42,26 @@ impl FewRows {
         ensures len { result ≡ length self.now }
         ensures few { result ≤ 3 }
     {
-        self.count
+        3 - self.start
     }
 
-    /// Puts a row behind the others. Where it begins right behind the last one and has its value,
-    /// it makes that one longer.
-    pub(crate) fn push(&mut self, row: Row)
+    /// Puts a row before the others. Where it ends right before the first of them and has its
+    /// value, it makes that one longer.
+    pub(crate) fn add(&mut self, row: Row)
         requires { length self.old < 3 }
-        ensures rows { self.new ≡ join self.old (row ∷ []) }
+        ensures rows { self.new ≡ add row self.old }
         ensures len { length self.new ≤ length self.old + 1 }
     {
         let (first, last, value) = row;
-        if self.count > 0 {
-            let (begin, end, before) = self.rows[self.count - 1];
-            if end < first && first - end == 1 && value == before {
-                self.rows[self.count - 1] = (begin, last, before);
+        if self.start < 3 {
+            let (begin, end, next) = self.rows[self.start];
+            if last < begin && begin - last == 1 && next == value {
+                self.rows[self.start] = (first, end, value);
                 return;
             }
         }
-        self.rows[self.count] = row;
-        self.count += 1;
+        self.start -= 1;
+        self.rows[self.start] = row;
     }
 
     /// Writes the bytes of the rows over the whole of `out`.
@@ -71,7 +71,7 @@ impl FewRows {
         ensures written { out.new ≡ table_bytes self.now }
         ensures stored { AllByRecursion IsStored self.now }
     {
-        let rows = &self.rows[..self.count];
+        let rows = &self.rows[self.start..];
         for (index, row) in rows.iter().enumerate() {
             store(*row, &mut out[index * 10..(index + 1) * 10]);
         }

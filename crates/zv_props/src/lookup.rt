@@ -68,6 +68,7 @@ impl Props<'_> {
     /// The value of a code point, or 0 where no row has it, as [`Props::get`]. Each comparison is
     /// counted as a step: there are at most as many as the number of rows has binary digits.
     #[inline]
+    #[tactic(auto, using(crate::proofs::Answers::first_place))]
     pub fn get_counted<L: Ledger>(&self, c: u32, steps: &mut Steps<L>) -> u16
         ensures value { result ≡ value_at self.now c }
         ensures digits { AtMostDigits (steps.new - steps.old) (length self.now) }

@@ -1,7 +1,7 @@
 // The form `props`: a table, and the lines that ask it and change it.
 ghost use Rattle.std.specs.Prelude.{◌≡◌, [], ◌∷◌, ◌++◌, IfOk, OnOk, string_bytes};
 ghost use Rattle.std.specs.Fmt.{decimal};
-ghost use Rattle.std.specs.List.{AllByRecursion};
+ghost use Rattle.std.specs.List.{All};
 ghost use Rattle.zv_command.specs.Due.{Tells, text_due};
 ghost use Rattle.zv_command.specs.Text.{line};
 ghost use Rattle.zv_command.specs.declared.status.Status.{Status};
@@ -29,7 +29,7 @@ pub struct TableSteps {
 
 impl Model for TableSteps {
     ghost use Rattle.std.specs.Prelude.{List};
-    ghost use Rattle.std.specs.List.{AllByRecursion};
+    ghost use Rattle.std.specs.List.{All};
     ghost use Rattle.zv_props.specs.Steps.{IsStep};
     ghost use Rattle.zv_props.specs.declared.step.Step.{Step};
 
@@ -37,7 +37,7 @@ impl Model for TableSteps {
 
     ghost view = { λ s. s.steps.items };
 
-    ghost invariant = { λ s. AllByRecursion IsStep s.steps.items };
+    ghost invariant = { λ s. All IsStep s.steps.items };
 }
 
 impl TableSteps {
@@ -86,7 +86,7 @@ fn take_step(
 
 // Takes all steps, and gives the replies.
 fn take_steps(alloc: Global, table: &mut Props<'_>, steps: &[Step]) -> Result<Vec<u8>, NoMemory>
-    requires { AllByRecursion IsStep steps.now }
+    requires { All IsStep steps.now }
     ensures replies { IfOk result (λ text. text.items ≡ replies table.old steps.now) }
     ensures table { OnOk result (AnswerAlike table.new (after_all table.old steps.now)) }
 {
@@ -112,7 +112,7 @@ fn push_table(alloc: Global, text: &mut Vec<u8>, table: &Props<'_>) -> Result<()
 // The whole answer. It is worked out before its first byte is written, since a range may want
 // memory.
 fn answer_text(alloc: Global, mut table: Props<'_>, steps: &[Step]) -> Result<Vec<u8>, NoMemory>
-    requires { AllByRecursion IsStep steps.now }
+    requires { All IsStep steps.now }
     ensures { IfOk result (λ text. IsAnswer table.entry steps.now text.items) }
 {
     let mut text = take_steps(alloc, &mut table, steps)?;

@@ -2,13 +2,14 @@
 ghost use Rattle.std.specs.Prelude.{◌≡◌, ◌<◌, ◌≤◌, length, IfSome};
 ghost use Rattle.std.specs.Option.{option_copied, option_map};
 ghost use Rattle.zv_input.specs.Input.{words};
+ghost use Rattle.zv_input.specs.Numbers.{number};
 ghost use Rattle.zv_input.specs.Words.{first_of, words_after};
-ghost use Rattle.zv_props.specs.Steps.{IsStep, at, if_end, number, number_on, range_of, set};
+ghost use Rattle.zv_props.specs.Steps.{IsStep, at, if_end, range_of, set};
 ghost use Rattle.zv_props.specs.Steps.{step_of};
 ghost use Rattle.zv_props.specs.Tables.{max_code_point};
 
 use crate::table::MAX_CODE_POINT;
-use zv_input::split_at_byte;
+use zv_input::{read_number, split_at_byte};
 
 /// A line that follows a table.
 #[derive(Clone, Copy)]
@@ -17,38 +18,6 @@ pub enum Step {
     At(u32),
     /// The code points from the first to the last get a value.
     Set(u32, u32, u16),
-}
-
-// What digits make of the number before them, unless it comes above a limit.
-#[tactic(auto, using(crate::proofs::Lines::digit_steps))]
-fn read_digits(digits: &[u8], most: u32) -> Option<u32>
-    requires { most ≤ max_code_point }
-    ensures number { result ≡ number_on most 0 digits.now }
-    ensures bound { IfSome result (λ n. n ≤ most) }
-{
-    let mut number = 0u32;
-    for digit in digits {
-        if !digit.is_ascii_digit() {
-            return None;
-        }
-        number = 10 * number + u32::from(*digit - b'0');
-        if number > most {
-            return None;
-        }
-    }
-    Some(number)
-}
-
-// The number that a word spells without leading zeros, up to a limit.
-fn read_number(word: &[u8], most: u32) -> Option<u32>
-    requires { most ≤ max_code_point }
-    ensures number { result ≡ number most word.now }
-    ensures bound { IfSome result (λ n. n ≤ most) }
-{
-    match word {
-        [] | [b'0', _, ..] => None,
-        _ => read_digits(word, most),
-    }
 }
 
 // The number that the first word of a text spells, and what follows the word's space.

@@ -38,6 +38,7 @@ impl<'a> Model for Props<'a> {
 }
 
 /// The error of the first row that has one.
+#[tactic(auto, using(crate::proofs::Proper::row_stops))]
 fn check_rows(rows: ZeroSlice<'_, Row>) -> Result<(), PropsError>
     ensures { result_err result ≡ rows_fault 0 0 0 (rows_of rows.entry.bytes.now) }
 {
@@ -89,6 +90,7 @@ impl<'a> Props<'a> {
     }
 
     /// Checks that the bytes are a proper table, and borrows them.
+    #[tactic(auto, using(crate::proofs::Proper::parsed))]
     pub fn parse(bytes: &'a [u8]) -> Result<Self, PropsError>
         ensures error { result_err result ≡ table_fault bytes.now }
         ensures rows { IfOk result (λ t. t ≡ rows_of bytes.now) }
@@ -109,6 +111,7 @@ impl<'a> Props<'a> {
 
     /// The bytes of the rows.
     #[inline]
+    #[tactic(auto, using(crate::proofs::Proper::no_fault))]
     pub fn as_bytes(&self) -> &[u8]
         ensures bytes { result.now ≡ table_bytes self.now }
         ensures fine { table_fault result.now ≡ None }

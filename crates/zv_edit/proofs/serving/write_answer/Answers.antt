@@ -1,4 +1,5 @@
-use Rattle.zv_edit.proofs.Common.{◌≡◌, ◌++◌, ◌∙◌, List, ℕ, refl, length, Rows, take_all, sym, ap, rules, arith, frame, canon, bytes_of, last, reply_lines, image_line}
+use Rattle.zv_edit.proofs.Common.{◌≡◌, ◌++◌, ◌∙◌, List, ℕ, refl, length, Rows, take_all}
+use Rattle.zv_edit.proofs.Common.{sym, ap, rules, arith, frame, canon, bytes_of, last, reply_lines, image_line}
 use Rattle.zv_map2d.proofs.Formed.{settled_lists, settled_parts}
 use Rattle.zv_map2d.specs.Formats.{head_of}
 use Rattle.zv_edit.proofs.Served.{at_err}

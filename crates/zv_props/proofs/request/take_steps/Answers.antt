@@ -5,4 +5,4 @@ pub loop-step-preserved : goal.loop-step-preserved
 loop-step-preserved c =
     rw c.in_ok-take_step.ensures.reply
     (next c.args.table.now c.loop-step.table c.take_step.new.table c.args.steps.now c.loop-step.step-index _ c.loop-step.text.items c.loop-step-test.true
-    c.requires c.in_ok-take_step.ensures.table c.loop-step.invariant)
+    (c.requires c.loop-step.step-index _ c.loop-step-test.true) c.in_ok-take_step.ensures.table c.loop-step.invariant)

@@ -1,6 +1,5 @@
-use Rattle.zv_props.proofs.Common.{◌≡◌, drop}
+use Rattle.zv_props.proofs.Common.{◌≡◌, drop, rows_of}
 use Rattle.zv_props.specs.Faults.{rows_fault}
-use Rattle.zv_props.specs.Stored.{rows_of}
 use Rattle.zv_props.proofs.table.check_rows.Given as goal
 
 abbrev pub invariant-loop-index : goal.invariant-loop-index

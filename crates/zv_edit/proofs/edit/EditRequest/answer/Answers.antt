@@ -23,5 +23,6 @@ returns-in-Err-Write g c =
     let image = c.args.image.now in
     let failed : (fault image ≡ None) × Rose (g.K.Sink.faults c.args.sink.now) (g.K.Sink.faults c.edit2d.new.sink) = search rules in
     let w : CutShort (IsAnswer image c.args.self.now) (g.K.Sink.taken c.args.sink.now) (g.K.Sink.taken c.edit2d.new.sink) =
-    let cut = c.in-Err-Write.ensures.in_part (search rules) in (cut.0, (cut.1.0, cut.1.1, cut.1.2 ∙ ap (answers cut.1.0) c.self.view_is), search (rules, cut.2)) in
+    let cut = c.in-Err-Write.ensures.in_part (search rules) in
+    (cut.0, (cut.1.0, cut.1.1, cut.1.2 ∙ ap (answers cut.1.0) c.self.view_is), search (rules, cut.2)) in
     rw (sound image (IsAnswer image c.args.self.now) failed.0) (tells_sent w.0 refl w.1 (inr (refl, failed.1, w.2)) c.edit2d.ensures.later)

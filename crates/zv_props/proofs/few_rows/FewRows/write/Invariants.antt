@@ -1,6 +1,5 @@
-use Rattle.zv_props.proofs.Common.{◌≡◌, ◌*◌, length, take}
-use Rattle.std.specs.List.{AllByRecursion}
-use Rattle.zv_props.specs.Stored.{IsStored, table_bytes}
+use Rattle.zv_props.proofs.Common.{◌≡◌, ◌*◌, length, take, AllByRecursion, table_bytes}
+use Rattle.zv_props.specs.Stored.{IsStored}
 use Rattle.zv_props.proofs.few_rows.FewRows.write.Given as goal
 
 abbrev pub invariant-loop-index : goal.invariant-loop-index

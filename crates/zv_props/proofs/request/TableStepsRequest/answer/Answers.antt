@@ -1,5 +1,4 @@
-use Rattle.zv_props.proofs.Common.{sym}
-use Rattle.std.proofs.Common.{refl}
+use Rattle.zv_props.proofs.Common.{sym, refl}
 use Rattle.zv_command.proofs.Telling.{tells_sent}
 use Rattle.zv_props.proofs.Steps.{bad_due, good_due}
 use Rattle.zv_props.proofs.request.TableStepsRequest.answer.Goals as goal

@@ -1,6 +1,6 @@
-use Rattle.zv_props.proofs.Common.{◌≡◌, ◌≤◌, drop}
-use Rattle.zv_props.specs.Steps.{number_on}
-use Rattle.zv_props.proofs.step.read_digits.Given as goal
+use Rattle.std.proofs.Common.{◌≡◌, ◌≤◌, drop}
+use Rattle.zv_input.specs.Numbers.{number_on}
+use Rattle.zv_input.proofs.numbers.read_digits.Given as goal
 
 abbrev pub invariant-loop-digit : goal.invariant-loop-digit
 invariant-loop-digit l = record {
