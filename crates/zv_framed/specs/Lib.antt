@@ -1,0 +1,5 @@
+pub mod Frames
+pub mod Displacements
+pub mod Faults
+pub mod Read
+pub mod Laws
