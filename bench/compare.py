@@ -1,5 +1,5 @@
 #!/usr/bin/env python3
-"""Runs the built program `zv` and a model of it (model.py) on random inputs, and stops where they differ.
+"""Runs the built program `zv` and a model of it (model.py) on random inputs and a few made maps, and stops where they differ.
 
     bench/compare.py [SECONDS] [SEED]
 
@@ -105,7 +105,15 @@ class Inputs:
         return bytes(text)
 
 
+def compare_made():
+    for count in (0, 1, 2, 64, 65, 1000, 4000):
+        done = subprocess.run([PROGRAM, "make", str(count)], capture_output=True, check=False)
+        if (done.stdout, done.returncode) != (model.make(count), 0):
+            sys.exit(f"make {count} is answered otherwise than by the model")
+
+
 def main():
+    compare_made()
     seconds = float(sys.argv[1]) if len(sys.argv) > 1 else 60
     inputs = Inputs(int(sys.argv[2]) if len(sys.argv) > 2 else 1)
     seen, end = collections.Counter(), time.monotonic() + seconds

@@ -1,4 +1,4 @@
-"""A model of `zv edit` in Python, written from docs/FORMATS.md and apart from the program: see compare.py."""
+"""A model of `zv edit` and `zv make` in Python, written from docs/FORMATS.md and apart from the program: see compare.py."""
 import re
 
 MOST_NARROW = 65_535  # the most bytes of a list with fields of two bytes
@@ -228,3 +228,14 @@ def edit(text):
     replies = [reply(rows, *command) for command in commands]
     replies.append(b"image " + spelled(canonical(rows)))
     return b"\n".join(replies) + b"\n", 0
+
+
+def make(count):
+    """What `zv make` writes for a number of puts."""
+    rows, x = {}, 7
+    for _ in range(count):
+        rows.setdefault(b"r%d" % (x % 64), {})[b"k%d" % x] = x.to_bytes(2, "little")
+        x = (5 * x + 3) % 4096
+    image = canonical(rows)
+    pairs = sum(len(row) for row in rows.values())
+    return b"rows %d pairs %d bytes %d sum %d\n" % (len(rows), pairs, len(image), sum(image))

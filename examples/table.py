@@ -1,9 +1,11 @@
 #!/usr/bin/env python3
-"""Turns a table of text into what `zv edit` reads, and what it writes back into text.
+"""Turns a table of text into what `zv edit` and `zv locale` read, and what they write back into text.
 
     examples/table.py put TABLE.tsv       an input that puts the table's lines into the empty map
     examples/table.py get KEY0 KEY1 ..    adds a look-up of each pair of keys to the input that it reads
     examples/table.py show [INPUT]        the image in the output that it reads, as such a table
+    examples/table.py ask KEY0 WANTED ..  asks, for `zv locale`, of the image in the output that it reads
+    examples/table.py asked INPUT         what the asks of an input are answered, in the output that it reads
 
 A line of a table is a first key, a second key and a value, with a tab between them. Keys and values
 are texts in UTF-8 here; `zv` takes any bytes as a value. docs/FORMATS.md describes the image.
@@ -102,17 +104,31 @@ def answered(commands, replies):
         raise ValueError(f"{len(commands)} commands and {len(replies)} replies")
     for command, reply in zip(commands, replies):
         (name, *fields), (kind, *values) = command.split(" "), reply.split(" ")
-        if name == "get":
+        if name in ("get", "ask"):
             yield "\t".join(("# " + kind, *map(text, fields[:2] + values)))
 
 
-def show(path):
-    *replies, last = lines_of(None) or ["there is no output of `zv edit` to show"]
+def edited():
+    """The replies of an edit, and its image as a field."""
+    *replies, last = lines_of(None) or ["there is no output of `zv edit`"]
     if not last.startswith("image x"):
         raise ValueError(last)
+    return replies, last[len("image "):]
+
+
+def show(path):
+    replies, image = edited()
     if path:
         yield from answered(lines_of(path)[1:], replies)
-    yield from map("\t".join, triples(bytes.fromhex(last[len("image x"):])))
+    yield from map("\t".join, triples(bytes.fromhex(image[1:])))
+
+
+def ask(keys):
+    if len(keys) % 2:
+        raise ValueError("each key wants a text of locales")
+    yield edited()[1]
+    for key0, wanted in zip(keys[::2], keys[1::2]):
+        yield f"ask {field(key0.encode())} {field(wanted.encode())}"
 
 
 def main(words):
@@ -121,6 +137,10 @@ def main(words):
             lines = put(path)
         case ["get", *keys] if keys:
             lines = get(keys)
+        case ["ask", *keys] if keys:
+            lines = ask(keys)
+        case ["asked", path]:
+            lines = answered(lines_of(path)[1:], lines_of(None))
         case ["show"]:
             lines = show(None)
         case ["show", path]:

@@ -183,15 +183,41 @@ fn a_cut_image_is_refused(rt: HostRuntime) -> Result<(), Fail> {
     Ok(())
 }
 
+// An image whose byte at an index has given way to others is refused.
+fn try_other_byte(
+    rt: &impl Abort,
+    alloc: Global,
+    whole: &[u8],
+    index: u8,
+    other: &[u8],
+) -> Result<(), Fail> {
+    let start = 1 + 2 * usize::from(index);
+    let mut input = Vec::from_slice(alloc, whole)?;
+    input.truncate(start);
+    input.extend_from_slice(other)?;
+    input.extend_from_slice(whole.get(start + 2..).unwrap_or(&[]))?;
+    try_input(rt, alloc, &input, Status::BadImage, &["error frame\n"])
+}
+
 #[test]
 fn a_head_without_one_of_its_bytes_is_refused(rt: HostRuntime) -> Result<(), Fail> {
     let alloc = rt.alloc();
     let whole = wide_pair(alloc)?;
-    for count in 0..11 {
-        let mut input = whole.clone()?;
-        input.truncate(1 + 2 * count);
-        input.extend_from_slice(whole.get(3 + 2 * count..).unwrap_or(&[]))?;
-        try_input(&rt, alloc, &input, Status::BadImage, &["error frame\n"])?;
+    for index in 0..11 {
+        try_other_byte(&rt, alloc, &whole, index, b"")?;
+    }
+    Ok(())
+}
+
+// A mark with another byte is the length of a part, and there are fewer bytes.
+#[test]
+fn a_mark_with_another_byte_is_none(rt: HostRuntime) -> Result<(), Fail> {
+    let alloc = rt.alloc();
+    let whole = wide_pair(alloc)?;
+    for index in 0..8 {
+        try_other_byte(&rt, alloc, &whole, index, b"00")?;
+        try_other_byte(&rt, alloc, &whole, index, b"7f")?;
+        try_other_byte(&rt, alloc, &whole, index, b"fe")?;
     }
     Ok(())
 }

@@ -14,9 +14,13 @@ mod heads;
 #[cfg(test)]
 mod large;
 #[cfg(test)]
+mod locales;
+#[cfg(test)]
 mod long_inputs;
 #[cfg(test)]
 mod looks;
+#[cfg(test)]
+mod makes;
 #[cfg(test)]
 mod props;
 #[cfg(test)]

@@ -1,7 +1,9 @@
 // Worked inputs, given to the program in pieces of several sizes.
 use crate::cases::{Case, cases, head_cases};
 use crate::changes::changes;
+use crate::locales::locales;
 use crate::looks::looks;
+use crate::makes::makes;
 use crate::props::props;
 use crate::runs::{answer_of, failing_devices, join, memory_devices, words_of};
 use std::alloc::Global;
@@ -96,8 +98,18 @@ fn each_look_up_is_answered(rt: HostRuntime) -> Result<(), Fail> {
 }
 
 #[test]
+fn each_locale_is_answered(rt: HostRuntime) -> Result<(), Fail> {
+    try_cases(&rt, rt.alloc(), locales())
+}
+
+#[test]
 fn each_table_is_answered(rt: HostRuntime) -> Result<(), Fail> {
     try_cases(&rt, rt.alloc(), props())
+}
+
+#[test]
+fn each_table_is_made(rt: HostRuntime) -> Result<(), Fail> {
+    try_cases(&rt, rt.alloc(), makes())
 }
 
 #[test]

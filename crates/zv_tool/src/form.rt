@@ -1,12 +1,13 @@
 // The forms of a command line.
 ghost use Rattle.std.specs.Prelude.{◌≡◌, IfOk, IsTrue, MatchOption, None, OnErr, Some, codes};
-ghost use Rattle.zv_input.specs.Input.{three_words};
-ghost use Rattle.zv_tool.specs.Forms.{form_of, is_word, look_keys, look_of, names_form};
+ghost use Rattle.zv_input.specs.Input.{three_words, two_words};
+ghost use Rattle.zv_tool.specs.Forms.{form_of, is_word, look_keys, look_of, make_of, names_form};
 
 use crate::words::Words;
 use std::alloc::Global;
 use zv_edit::Look;
-use zv_input::read_key;
+use zv_input::{read_key, read_number};
+use zv_make::MAX_PUTS;
 use zv_ule::NoMemory;
 
 /// What the words of the command line ask for.
@@ -16,8 +17,12 @@ pub(crate) enum Form {
     Edit,
     /// A pair of keys is looked up in an image.
     Look(Look),
+    /// An image is asked for the data of locales.
+    Locale,
     /// A table of code point ranges is asked and changed.
     Props,
+    /// A table is made by so many puts.
+    Make(u16),
 }
 
 // Whether the words are this one.
@@ -25,6 +30,17 @@ fn is_word(words: &Words, word: &str) -> bool
     ensures { result ≡ is_word word.now words.now }
 {
     words.len() == 1 && words.get(0) == Some(word)
+}
+
+// The words, where there are two.
+fn two_words(words: &Words) -> Option<(&str, &str)>
+    ensures { MatchOption result (two_words words.now ≡ None)
+        (λ pair. two_words words.now ≡ Some (pair.0.now, pair.1.now)) }
+{
+    if words.len() != 2 {
+        return None;
+    }
+    Some((words.get(0)?, words.get(1)?))
 }
 
 // The words, where there are three.
@@ -66,6 +82,18 @@ fn read_look(alloc: Global, words: &Words) -> Result<Option<Form>, NoMemory>
     read_keys(alloc, a, b)
 }
 
+// The form of words that are `make` and a number.
+fn read_make(words: &Words) -> Option<Form>
+    ensures { result ≡ make_of words.now }
+{
+    let (word, number) = two_words(words)?;
+    if word != "make" {
+        return None;
+    }
+    let count = read_number(number.as_bytes(), u32::from(MAX_PUTS))?;
+    Some(Form::Make(count as u16))
+}
+
 /// The form that the words are, or `None` where they are none.
 pub(crate) fn read_form(alloc: Global, words: &Words) -> Result<Option<Form>, NoMemory>
     ensures form { IfOk result (λ form. form ≡ form_of words.now) }
@@ -76,6 +104,12 @@ pub(crate) fn read_form(alloc: Global, words: &Words) -> Result<Option<Form>, No
     }
     if is_word(words, "props") {
         return Ok(Some(Form::Props));
+    }
+    if is_word(words, "locale") {
+        return Ok(Some(Form::Locale));
+    }
+    if let Some(form) = read_make(words) {
+        return Ok(Some(form));
     }
     read_look(alloc, words)
 }

@@ -12,6 +12,8 @@ use std::alloc::Global;
 use zv_command::{MAX_INPUT, Status, run_request, send};
 use zv_devices::{Sink, Source};
 use zv_edit::Edit;
+use zv_locale::Asks;
+use zv_make::make;
 use zv_props::TableSteps;
 use zv_ule::NoMemory;
 
@@ -23,17 +25,19 @@ fn run_form<S: Source, K: Sink>(alloc: Global, form: Form, source: &mut S, sink:
     match form {
         Form::Edit => run_request(alloc, Edit::new(alloc), source, sink),
         Form::Look(look) => run_request(alloc, look, source, sink),
+        Form::Locale => run_request(alloc, Asks::new(alloc), source, sink),
         Form::Props => run_request(alloc, TableSteps::new(alloc), source, sink),
+        Form::Make(count) => make(alloc, count, sink),
     }
 }
 
 /// All that the program does: reads the source to its end, answers to the sink, and says how it
 /// ended.
 ///
-/// The command forms are `edit`, `look F F` and `props`. Line 1 of the input is `x` and the bytes
-/// of an image, or of a table for `props`, in hex. For `look` it is the only line, and the answer
-/// is `some xV` or `none`, for the pair of keys that the fields are. For `edit` each further line
-/// is a command, which runs on the map that those before it left:
+/// The command forms are `edit`, `look F F`, `locale`, `props` and `make N`. Line 1 of the input is
+/// `x` and the bytes of an image, or of a table for `props`, in hex. For `look` it is the only
+/// line, and the answer is `some xV` or `none`, for the pair of keys that the fields are. For
+/// `edit` each further line is a command, which runs on the map that those before it left:
 ///
 /// - `get K K` looks up a pair of keys, and is answered `some xV`, or `none`;
 /// - `put K K F` gives a pair a value, and is answered `new`, or `old xV` with the value that the
@@ -41,6 +45,13 @@ fn run_form<S: Source, K: Sink>(alloc: Global, form: Form, source: &mut S, sink:
 /// - `del K K` removes a pair, and is answered `old xV`, or `none`;
 /// - `row K` lists the pairs of a first key in order, and is answered `row` and ` xK xV` for each,
 ///   or `none`.
+///
+/// For `locale` each further line asks for the data of a first key that is the best for a wanted
+/// text, 1 to 16 locales joined by `,`, each of subtags of 1 to 8 ASCII letters or digits joined by
+/// `-`. Each locale is tried whole and then without its last subtags, and `und` at the end:
+///
+/// - `ask K W`, where W is the field of a wanted text, is answered `some xT xV`, with the first of
+///   these names that is a second key and its value, or `none`.
 ///
 /// For `props` each further line asks or changes the table that those before it left, and the
 /// answer ends with `table xT`, the bytes of the one that is left:
@@ -51,13 +62,17 @@ fn run_form<S: Source, K: Sink>(alloc: Global, form: Form, source: &mut S, sink:
 /// N is a number in decimal without leading zeros: a code point up to 1,114,111, the first not
 /// above the last, or a value up to 65,535.
 ///
+/// For `make`, N is a number up to 4,000, and no input is read: N puts make a map of none, and the
+/// answer is `rows R pairs P bytes B sum S`, with the length of its image and the sum of the
+/// image's bytes.
+///
 /// A field F is `x` and an even number of hex digits in either case; a key K is a field that is
 /// UTF-8, and so are the fields of `look`. One space stands between words. Lines end in LF, which
 /// may be missing after the last. All lines are checked before the image. The answer of `edit` ends
 /// with `image xI`, the canonical image of the map that is left; its hex is in lower case. A
 /// refusal is one line, `error line N`, or `error` and the word of the image's first fault, or of
 /// the table's, `length`, or `row I`, `order I` or `join I` with the row's place from 0.
-#[tactic(auto, using(crate::proofs::Runs::memory_unless))]
+#[tactic(auto, using(crate::proofs::Runs::memory_unless, crate::proofs::Runs::unnamed))]
 pub fn run<S: Source, K: Sink>(alloc: Global, words: &Words, source: &mut S, sink: &mut K) -> Status
     // Where a text is due, it is the one that the words and the whole input want.
     ensures written { IsTrue (is_written result)

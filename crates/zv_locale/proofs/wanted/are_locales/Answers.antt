@@ -1,0 +1,10 @@
+use Rattle.std.proofs.Common.{rules, lit<, tests}
+use Rattle.std.proofs.lemmas.Iterator.Search.{all_from_yields_List}
+use Rattle.std.proofs.lemmas.Iterator.Splits.{YieldsList-from_str_split}
+use Rattle.zv_locale.specs.Wanted.{is_locale}
+use Rattle.zv_locale.proofs.wanted.are_locales.Goals as goal
+
+pub returns : goal.returns
+returns c =
+    let split = YieldsList-from_str_split 44 c.args.text.now (lit< tt) c.split.ensures.text c.split.ensures.has_more c.split.ensures.pattern in
+    all_from_yields_List is_locale _ _ _ c.all.ensures.ran split (λ x b q k. search (rules, tests))
