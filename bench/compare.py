@@ -19,6 +19,7 @@ import model
 TOP = os.path.dirname(os.path.dirname(os.path.abspath(__file__)))
 PROGRAM = os.path.join(TOP, "crates", "zv", "out", "zv")
 SHORT_KEYS = [b"", b"a", b"b", b"ab", b"abc", "é".encode(), "😀".encode(), b"A", b"a\0", b"k" * 12, b"k" * 13]
+NAMES = [b"en", b"en-GB", b"en-US", b"eng", b"de", b"de-AT", b"de-AT-1996", b"und", b"a", b"b"]
 LONG_KEYS = [b"q" * length for length in (32_760, 32_766, 65_520, 65_528, 65_533, 65_534, 65_535)]
 
 
@@ -28,12 +29,19 @@ class Inputs:
     def __init__(self, seed):
         self.random = random.Random(seed)
         self.at_edges = False
+        self.keys0 = self.keys1 = SHORT_KEYS
 
     def chance(self, likely):
         return self.random.random() < likely
 
-    def key(self):
-        return self.random.choice(LONG_KEYS if self.at_edges and self.chance(0.15) else SHORT_KEYS)
+    def key(self, short):
+        return self.random.choice(LONG_KEYS if self.at_edges and self.chance(0.15) else short)
+
+    def wanted(self):
+        """A wanted text, mostly."""
+        subtags = [b"en", b"de", b"GB", b"AT", b"1996", b"x", b"abcdefgh", b"fr"] + ([b"", b"abcdefghi", b"\xc3\xa9"] if self.chance(0.02) else [])
+        locales = [b"-".join(self.random.choices(subtags, k=self.random.randrange(1, 5))) for _ in range(self.random.choice([1, 1, 2, 3, 15, 16]))]
+        return b",".join(locales + [b"en"] * self.chance(0.01))
 
     def value(self):
         if self.at_edges:
@@ -66,7 +74,7 @@ class Inputs:
         for _ in range(self.random.choice([0, 1, 1, 2, 3, 5, 9])):
             for _ in range(self.random.randrange(1, 4)):
                 value = self.value() if self.chance(0.2) else self.random.randbytes(self.random.randrange(6))
-                rows.setdefault(self.key(), {})[self.key()] = value
+                rows.setdefault(self.key(self.keys0), {})[self.key(self.keys1)] = value
         keys0, ends, keys1, values = model.lists(rows)
         kind = self.random.choice(["map"] * 5 + ["image", "head", "part", "joiner", "order", "text"])
         if kind == "joiner":
@@ -88,16 +96,22 @@ class Inputs:
 
     def command(self):
         name = self.random.choice([b"get", b"put", b"put", b"put", b"del", b"row"])
-        fields = [self.key(), self.key(), self.value()][: len(model.FORMS[name])]
+        fields = [self.key(self.keys0), self.key(self.keys1), self.value()][: len(model.COMMANDS[name])]
         return b" ".join([name] + [self.field(field) for field in fields])
 
-    def text(self):
+    def ask(self):
+        return b" ".join([b"ask", self.field(self.key(self.keys0)), self.field(self.wanted())])
+
+    def text(self, form):
+        """An input of a form of the program."""
         self.at_edges = self.chance(0.5)
+        self.keys0, self.keys1 = (SHORT_KEYS, SHORT_KEYS) if form == "edit" else (SHORT_KEYS[:3], NAMES)
+        line = self.command if form == "edit" else self.ask
         try:
             image = self.image()
         except OverflowError:  # the starts of so long a list don't fit their fields
-            return self.text()
-        lines = [self.field(image)] + [self.command() for _ in range(self.random.choice([0, 1, 2, 5, 20, 60]))]
+            return self.text(form)
+        lines = [self.field(image)] + [line() for _ in range(self.random.choice([0, 1, 2, 5, 20, 60]))]
         text = bytearray(b"\n".join(lines) + (b"\n" if self.chance(0.8) else b""))
         if self.chance(0.1):
             at = self.random.randrange(len(text))
@@ -118,14 +132,15 @@ def main():
     inputs = Inputs(int(sys.argv[2]) if len(sys.argv) > 2 else 1)
     seen, end = collections.Counter(), time.monotonic() + seconds
     while time.monotonic() < end:
-        text = inputs.text()
-        done = subprocess.run([PROGRAM, "edit"], input=text, capture_output=True, check=False)
-        wanted, status = model.edit(text)
+        form = inputs.random.choice(["edit", "edit", "locale"])
+        text = inputs.text(form)
+        done = subprocess.run([PROGRAM, form], input=text, capture_output=True, check=False)
+        wanted, status = {"edit": model.edit, "locale": model.locale}[form](text)
         if (done.stdout, done.returncode) != (wanted, status):
             with open("differs.txt", "wb") as file:
                 file.write(text)
-            sys.exit(f"differs.txt is answered otherwise: status {done.returncode}, and {status} by the model")
-        seen["inputs"] += 1
+            sys.exit(f"{form}: differs.txt is answered otherwise: status {done.returncode}, and {status} by the model")
+        seen[f"inputs of {form}"] += 1
         seen.update(line.split(b" ")[0].decode() for line in wanted.splitlines() if status == 0)
         if status != 0:
             seen[wanted.decode().strip() if status == 5 else "error line"] += 1

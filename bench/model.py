@@ -170,18 +170,26 @@ def key_of(word):
     return field if field is not None and is_text(field) else None
 
 
-FORMS = {
+def wanted_of(word):
+    field = value_of(word)
+    locale = rb"[0-9A-Za-z]{1,8}(-[0-9A-Za-z]{1,8})*"
+    is_wanted = field is not None and field.count(b",") < 16 and re.fullmatch(locale + rb"(," + locale + rb")*", field)
+    return field if is_wanted else None
+
+
+COMMANDS = {
     b"get": [key_of, key_of],
     b"put": [key_of, key_of, value_of],
     b"del": [key_of, key_of],
     b"row": [key_of],
 }
+ASKS = {b"ask": [key_of, wanted_of]}
 
 
-def command_of(line):
-    """A command's name and fields, or None for a bad line."""
+def line_of(forms, line):
+    """A line's name and fields, or None for a bad line."""
     name, *words = line.split(b" ")
-    readers = FORMS.get(name)
+    readers = forms.get(name)
     if readers is None or len(readers) != len(words):
         return None
     fields = [read(word) for read, word in zip(readers, words)]
@@ -210,24 +218,45 @@ def reply(rows, name, fields):
     return b"old " + spelled(old)
 
 
-def edit(text):
-    """What `zv edit` writes for an input, and its status."""
+def answer(rows, key, wanted):
+    """What is found for a key and a wanted text."""
+    names = ["-".join(locale[:end]) for locale in (each.split("-") for each in wanted.decode().split(",")) for end in range(len(locale), 0, -1)]
+    row = rows.get(key, {})
+    found = [name.encode() for name in names + ["und"] if name.encode() in row]
+    return b"some " + spelled(found[0]) + b" " + spelled(row[found[0]]) if found else b"none"
+
+
+def answers(text, forms, tell):
+    """What is written for an input whose lines have these forms, and its status; `tell` gives the lines that are due."""
     if len(text) > MOST_INPUT:
         return b"", 3
     lines = text.split(b"\n")
     if not lines[-1]:
         lines.pop()
     image = value_of(lines[0]) if lines else None
-    commands = [command_of(line) for line in lines[1:]]
-    if image is None or None in commands:
-        return b"error line %d\n" % (1 if image is None else commands.index(None) + 2), 4
+    asked = [line_of(forms, line) for line in lines[1:]]
+    if image is None or None in asked:
+        return b"error line %d\n" % (1 if image is None else asked.index(None) + 2), 4
     try:
         rows = parsed(image)
     except Refused as cause:
         return b"error %s\n" % str(cause).encode(), 5
-    replies = [reply(rows, *command) for command in commands]
-    replies.append(b"image " + spelled(canonical(rows)))
-    return b"\n".join(replies) + b"\n", 0
+    return b"".join(line + b"\n" for line in tell(rows, asked)), 0
+
+
+def edit(text):
+    """What `zv edit` writes for an input, and its status."""
+
+    def tell(rows, commands):
+        replies = [reply(rows, *command) for command in commands]
+        return replies + [b"image " + spelled(canonical(rows))]
+
+    return answers(text, COMMANDS, tell)
+
+
+def locale(text):
+    """What `zv locale` writes for an input, and its status."""
+    return answers(text, ASKS, lambda rows, asks: [answer(rows, *fields) for _, fields in asks])
 
 
 def make(count):

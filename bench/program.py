@@ -4,8 +4,8 @@
     bench/program.py [RUNS]
 
 Build it first (`./zv --prove`), and have GNU time (Debian's package `time`). Inputs are
-made in a temporary folder. Each line says the least processor time of RUNS runs (5 by default) and the
-largest peak memory.
+made in a temporary folder. Each line says the least processor time of RUNS runs (5 by default), that time
+for each line of the input after the image, and the largest peak memory.
 """
 import os
 import resource
@@ -60,13 +60,21 @@ def mixed(table, size):
     return b"".join(out)
 
 
-def measure(data, runs):
+def asks(table, size):
+    """An image and `ask` lines up to about `size` bytes: the third name that is tried is there."""
+    out = spelled(canonical(table)) + b"\n"
+    lines = [b"ask " + spelled(first) + b" " + spelled(second + b"-AT-1996") + b"\n" for first in sorted(table) for second in sorted(table[first])]
+    block = b"".join(lines)
+    return out + block * max(1, (size - len(out)) // len(block))
+
+
+def measure(form, data, runs):
     least, peak = None, 0
     with tempfile.TemporaryDirectory() as folder:
         path, told = os.path.join(folder, "input"), os.path.join(folder, "told")
         with open(path, "wb") as file:
             file.write(data)
-        command = [TIME, "-f", "%M", "-o", told, PROGRAM, "edit"]
+        command = [TIME, "-f", "%M", "-o", told, PROGRAM, form]
         for _ in range(runs):
             before = resource.getrusage(resource.RUSAGE_CHILDREN)
             with open(path, "rb") as source:
@@ -90,6 +98,7 @@ def main():
     locales = {b"%c%c" % (97 + i // 26, 97 + i % 26): {s: b"US" for s in scripts} for i in range(400)}
     territories = {b"l%03d" % i: {b"%c%c" % (65 + j // 26, 65 + j % 26): b"name of %d" % j for j in range(250)} for i in range(150)}
     long = {b"a": {b"b": b"\x07" * 4_000_000}}
+    names = {name: {locale: b"US" for locale in (b"da", b"de", b"en", b"fr", b"it", b"nl", b"sv")} for name in locales}
     inputs = [
         ("1 MB of get lines, one pair", gets(small, 1_000_000)),
         ("15 MB of get lines, one pair", gets(small, 15_000_000)),
@@ -102,11 +111,14 @@ def main():
         ("100 KB of get, put, del, row, 2800 pairs", mixed(locales, 100_000)),
         ("3 MB of get, put, del, row, 37,500 pairs", mixed(territories, 3_000_000)),
     ]
-    print(f"{'input':40} {'bytes':>10} {'processor':>10} {'peak':>10} {'peak/input':>10}")
-    for name, data in inputs:
-        time, peak = measure(data, runs)
+    asked = ("15 MB of ask lines, 2800 pairs", asks(names, 15_000_000))
+    print(f"{'input':40} {'bytes':>10} {'processor':>10} {'a line':>10} {'peak':>10} {'peak/input':>10}")
+    for form, (name, data) in [("edit", each) for each in inputs] + [("locale", asked)]:
+        time, peak = measure(form, data, runs)
+        lines = data.count(b"\n") - 1
+        a_line = f"{time * 1e9 / lines:7.0f} ns" if lines else " " * 10
         ratio = peak * 1024 / len(data)
-        print(f"{name:40} {len(data):10} {time * 1000:7.0f} ms {peak / 1024:7.1f} MB {ratio:9.1f}x")
+        print(f"{name:40} {len(data):10} {time * 1000:7.0f} ms {a_line} {peak / 1024:7.1f} MB {ratio:9.1f}x")
 
 
 if __name__ == "__main__":
