@@ -5,6 +5,7 @@ pub mod codes;
 pub mod images;
 pub mod languages;
 pub mod names;
+pub mod readers;
 pub mod regions;
 pub mod scores;
 pub mod scripts;

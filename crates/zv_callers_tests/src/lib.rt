@@ -6,4 +6,6 @@ mod images;
 #[cfg(test)]
 mod languages;
 #[cfg(test)]
+mod readers;
+#[cfg(test)]
 mod regions;

@@ -12,7 +12,7 @@ ghost use Rattle.zv_edit.specs.Output.{found_line};
 use std::alloc::Global;
 use zv_command::{Output, Request, Status, write_value};
 use zv_devices::{Failed, Sink};
-use zv_image::{plain, refuse};
+use zv_image::{plain, refuse, status_of};
 use zv_input::KeyText;
 use zv_map2d::{EditError, parse_image};
 use zv_ule::{NoMemory, SliceULE, VarRef};
@@ -101,13 +101,9 @@ impl Request for Look {
     }
 
     fn answer<K: Sink>(&self, _alloc: Global, image: &[u8], sink: &mut K) -> Status {
-        let value = match look2d(image, self.key0.as_str(), self.key1.as_str()) {
-            Ok(value) => value,
-            Err(cause) => return refuse(sink, cause),
-        };
-        match tell(value, sink) {
-            Ok(()) => Status::Done,
-            Err(Failed) => Status::WriteFault,
+        match look2d(image, self.key0.as_str(), self.key1.as_str()) {
+            Ok(value) => status_of(tell(value, sink)),
+            Err(cause) => refuse(sink, cause),
         }
     }
 }

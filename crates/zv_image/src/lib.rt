@@ -9,5 +9,5 @@ mod room;
 
 pub use lines::write_image;
 pub use places::{discard, find_place, fits, plain, put_fitting, value_at};
-pub use refusal::refuse;
+pub use refusal::{refuse, status_of};
 pub use room::reserve;

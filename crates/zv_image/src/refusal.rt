@@ -1,12 +1,12 @@
-// What an image is refused with.
+// How an answer on an image ends, and what an image is refused with.
 ghost use Rattle.std.specs.Prelude.{◌≡◌, IsTrue};
 ghost use Rattle.zv_map2d.specs.Causes.{is_cause};
 ghost use Rattle.zv_command.specs.Due.{Tells};
-ghost use Rattle.zv_image.specs.Due.{cause_due};
+ghost use Rattle.zv_image.specs.Due.{cause_due, status_of};
 ghost use Rattle.zv_image.specs.Text.{cause_line};
 
 use zv_command::{Status, send};
-use zv_devices::Sink;
+use zv_devices::{Failed, Sink};
 use zv_map2d::EditError;
 use zv_ule::UleError;
 
@@ -34,4 +34,14 @@ pub fn refuse<K: Sink>(sink: &mut K, cause: EditError) -> Status
     ensures { Tells K.taken K.faults sink.old sink.new result (cause_due cause) }
 {
     send(sink, cause_text(cause), Status::BadImage)
+}
+
+/// The status of an answer that was written, or of which a write failed.
+pub fn status_of(written: Result<(), Failed>) -> Status
+    ensures { result ≡ status_of written }
+{
+    match written {
+        Ok(()) => Status::Done,
+        Err(Failed) => Status::WriteFault,
+    }
 }

@@ -9,8 +9,8 @@ use crate::wanted::Wanted;
 use std::alloc::Global;
 use std::marker::Model;
 use zv_command::{Request, Status};
-use zv_devices::{Failed, Sink};
-use zv_image::refuse;
+use zv_devices::Sink;
+use zv_image::{refuse, status_of};
 use zv_input::{Command, Commands, CommandsError, KeyText, MAX_COMMANDS, read_key, split_at_byte};
 use zv_map2d::parse_image;
 use zv_ule::NoMemory;
@@ -134,13 +134,9 @@ impl Request for Asks {
     }
 
     fn answer<K: Sink>(&self, _alloc: Global, image: &[u8], sink: &mut K) -> Status {
-        let map = match parse_image(image) {
-            Ok(map) => map,
-            Err(cause) => return refuse(sink, cause),
-        };
-        match tell(&map, self.asks.as_slice(), sink) {
-            Ok(()) => Status::Done,
-            Err(Failed) => Status::WriteFault,
+        match parse_image(image) {
+            Ok(map) => status_of(tell(&map, self.asks.as_slice(), sink)),
+            Err(cause) => refuse(sink, cause),
         }
     }
 }
