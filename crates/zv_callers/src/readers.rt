@@ -22,11 +22,7 @@ fn preferred(text: &str) -> Wanted<'_>
 
 /// The best text of a name for a reader who prefers these locales, such as `de-AT,en`. Whoever
 /// sends no locales, or no such text, reads the root's.
-pub fn text_for<'l>(
-    texts: &'l ImageMap<'_>,
-    name: &str,
-    locales: &'l str,
-) -> Option<Provided<'l>>
+pub fn text_for<'l>(texts: &'l ImageMap<'_>, name: &str, locales: &'l str) -> Option<Provided<'l>>
     ensures { option_map name_and_value result
         ≡ provided texts.now.rows name.now (preferred locales.now) }
 {
