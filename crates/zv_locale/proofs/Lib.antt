@@ -2,3 +2,4 @@ mod Worked
 pub mod Cuts
 pub mod Lines
 pub mod Searches
+pub mod Sent
