@@ -1,0 +1,13 @@
+//! The program over devices that fail, and at images and tables that are malformed.
+#![tactic(auto)]
+
+#[cfg(test)]
+mod devices;
+#[cfg(test)]
+mod forms;
+#[cfg(test)]
+mod images;
+#[cfg(test)]
+mod std_devices;
+#[cfg(test)]
+mod tables;
