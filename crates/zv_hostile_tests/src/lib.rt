@@ -6,7 +6,11 @@ mod devices;
 #[cfg(test)]
 mod forms;
 #[cfg(test)]
+mod hash_tables;
+#[cfg(test)]
 mod images;
+#[cfg(test)]
+mod lists;
 #[cfg(test)]
 mod std_devices;
 #[cfg(test)]
