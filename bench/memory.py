@@ -17,6 +17,7 @@ import re
 import subprocess
 import sys
 import tempfile
+import time
 
 import model
 
@@ -24,6 +25,7 @@ TOP = os.path.dirname(os.path.dirname(os.path.abspath(__file__)))
 MADE_FOR_THIS = "zv_memory_tests"
 MOST = 400  # allocations of a run or a test that are refused in turn, and then one in each STEP
 STEP = 97
+SECONDS = 60  # and no more are refused of a run or a test after these
 WITHOUT_MEMORY = re.compile(rb"error: (AllocError|NoMemory|Memory|OutOfMemory)\b")
 
 
@@ -38,14 +40,14 @@ def forms():
     for row in scripts.split(","):
         language, *names = row.split()
         locales[language.encode()] = {name.encode(): b"IN" for name in names}
-    row14 = field(model.canonical(locales)) + "\nget x7364 x4b686f6a\nrow x6b75\ndel x7a68 x426f706f\nput x656e x4c61746e x5553\n"
+    edit = field(model.canonical(locales)) + "\nget x7364 x4b686f6a\nrow x6b75\ndel x7a68 x426f706f\nput x656e x4c61746e x5553\n"
     names = {b"data of a long name": {b"en": b"\1", b"en-GB": b"\2", b"und": b"\3"}}
     asks = f"\nask {field(b'data of a long name')} {field(b'en-GB-oxendict')}\nask x64 x6672\n"
     wide = {b"a": {b"b": bytes(70_000)}}
     puts = field(model.canonical({})) + "\nput x61 x62 x01\n"
     return [
         (["edit"], puts),
-        (["edit"], row14),
+        (["edit"], edit),
         (["edit"], field(model.canonical(wide)) + "\nput x61 x62 x" + "22" * 70_001 + "\nput x63 x64 x01\n"),
         (["edit"], puts + "find x61\n"),
         (["edit"], "x00\nget x61 x62\n"),
@@ -85,8 +87,11 @@ def numbers():
 
 def each_refusal(library, command, text, judge):
     """Counts what the judge says of each refusal, until a run has fewer allocations."""
-    count = collections.Counter()
+    count, end = collections.Counter(), time.monotonic() + SECONDS
     for number in numbers():
+        if time.monotonic() > end:
+            print(f"{' '.join(command[1:])}: only the allocations up to {number - 1}")
+            break
         done, came = run(library, command, text, number)
         if not came:
             break
