@@ -22,9 +22,9 @@ enum Call {
 }
 
 // A call, and the bytes of the list that it leaves.
-struct Row {
+struct Row<'r> {
     call: Call,
-    after: &'static [u8],
+    after: &'r [u8],
 }
 
 // Makes a call at the first place.
@@ -55,7 +55,7 @@ fn try_call<'a, T, C, Q>(
     rt: &impl Abort,
     alloc: Global,
     before: &'a [u8],
-    row: &Row,
+    row: &Row<'_>,
     value: &Q,
     is_owned: bool,
 ) -> Result<(), Fail>
@@ -82,7 +82,7 @@ fn try_calls<'a, T, C, Q>(
     rt: &impl Abort,
     alloc: Global,
     before: &'a [u8],
-    rows: &[Row],
+    rows: &[Row<'_>],
     value: &Q,
 ) -> Result<(), Fail>
 where
@@ -102,7 +102,7 @@ where
 // The list of "a", and calls with "bc".
 const TEXT: &[u8] = &[1, 0, 97];
 
-const TEXTS: [Row; 7] = [
+const TEXTS: [Row<'static>; 7] = [
     Row {
         call: Call::Insert,
         after: &[2, 0, 2, 0, 98, 99, 97],
@@ -147,7 +147,7 @@ fn texts_of_either_form_are_as_they_were(rt: HostRuntime) -> Result<(), Fail> {
 // The list of 1, and calls with 7.
 const NUMBER: &[u8] = &[1, 0, 0, 0];
 
-const NUMBERS: [Row; 7] = [
+const NUMBERS: [Row<'static>; 7] = [
     Row {
         call: Call::Insert,
         after: &[7, 0, 0, 0, 1, 0, 0, 0],

@@ -22,9 +22,9 @@ enum Call {
 }
 
 // A call, and the pairs that it leaves.
-struct Row {
+struct Row<'r> {
     call: Call,
-    after: &'static [(u32, &'static str)],
+    after: &'r [(u32, &'r str)],
 }
 
 // Makes a call with the name "x".
@@ -52,7 +52,7 @@ fn has_pairs(rt: &impl Abort, map: ZeroMapBorrowed<'_, u32, StrULE>, pairs: &[(u
 }
 
 // Makes a call on the map. It leaves these pairs, or the map as it was.
-fn try_call<'a, C, D>(rt: &impl Abort, alloc: Global, row: &Row) -> Result<(), Fail>
+fn try_call<'a, C, D>(rt: &impl Abort, alloc: Global, row: &Row<'_>) -> Result<(), Fail>
 where
     C: MutableZeroVecLike<'a, u32>,
     D: MutableZeroVecLike<'a, StrULE>,
@@ -69,7 +69,7 @@ where
     Ok(())
 }
 
-const ROWS: [Row; 9] = [
+const ROWS: [Row<'static>; 9] = [
     Row {
         call: Call::Insert(0),
         after: &[(0, "x"), (1, "dos")],

@@ -24,12 +24,12 @@ enum Call {
 }
 
 // A call, and the first keys, ends, second keys and values of the map that it leaves.
-struct Row {
+struct Row<'r> {
     call: Call,
-    keys0: &'static [u8],
-    joiner: &'static [u8],
-    keys1: &'static [u8],
-    values: &'static [u8],
+    keys0: &'r [u8],
+    joiner: &'r [u8],
+    keys1: &'r [u8],
+    values: &'r [u8],
 }
 
 // Makes a call that changes pairs, with the name "x".
@@ -74,7 +74,7 @@ where
 }
 
 // The map has these lists.
-fn has_lists<'a, C0, C1, D>(rt: &impl Abort, map: &Names<'a, C0, C1, D>, row: &Row)
+fn has_lists<'a, C0, C1, D>(rt: &impl Abort, map: &Names<'a, C0, C1, D>, row: &Row<'_>)
 where
     C0: MutableZeroVecLike<'a, u16>,
     C1: MutableZeroVecLike<'a, u16>,
@@ -87,7 +87,7 @@ where
     assert!(rt; parts.values == row.values);
 }
 
-const BEFORE: Row = Row {
+const BEFORE: Row<'static> = Row {
     call: Call::Own,
     keys0: &[1, 0],
     joiner: &[1, 0, 0, 0],
@@ -96,7 +96,7 @@ const BEFORE: Row = Row {
 };
 
 // Makes a call on the map. It leaves these lists, or the map as it was.
-fn try_call<'a, C0, C1, D>(rt: &impl Abort, alloc: Global, row: &Row) -> Result<(), Fail>
+fn try_call<'a, C0, C1, D>(rt: &impl Abort, alloc: Global, row: &Row<'_>) -> Result<(), Fail>
 where
     C0: MutableZeroVecLike<'a, u16>,
     C1: MutableZeroVecLike<'a, u16>,
@@ -110,7 +110,7 @@ where
     Ok(())
 }
 
-const ROWS: [Row; 10] = [
+const ROWS: [Row<'static>; 10] = [
     Row {
         call: Call::Insert(0, 9),
         keys0: &[0, 0, 1, 0],
