@@ -1,0 +1,126 @@
+// Maps in one level.
+use std::alloc::Global;
+use std::process::Abort;
+use std::test::Fail;
+use zv_map::{MapError, MutableZeroVecLike, ZeroMapKV};
+use zv_map1::{MapOver, ZeroMapBorrowed};
+use zv_ule::StrULE;
+
+type Of<'a, K> = <K as ZeroMapKV<'a>>::Container;
+
+// A map from numbers to names.
+type Names<C, D> = MapOver<u32, StrULE, C, D>;
+
+// What is asked of a map of (1, "dos").
+#[derive(Clone, Copy)]
+enum Call {
+    Insert(u32),
+    Append(u32),
+    Remove(u32),
+    Room,
+    Copy,
+}
+
+// A call, and the pairs that it leaves.
+struct Row<'r> {
+    call: Call,
+    after: &'r [(u32, &'r str)],
+}
+
+// Makes a call with the name "x".
+fn make<'a, C, D>(alloc: Global, map: &mut Names<C, D>, call: Call) -> Result<(), MapError>
+where
+    C: MutableZeroVecLike<'a, u32>,
+    D: MutableZeroVecLike<'a, StrULE>,
+{
+    match call {
+        Call::Insert(key) => drop(map.insert(alloc, &key, &"x")?),
+        Call::Append(key) => drop(map.try_append(alloc, &key, &"x")?),
+        Call::Remove(key) => drop(map.remove(alloc, &key)?),
+        Call::Room => map.reserve(alloc, 100)?,
+        Call::Copy => drop(map.clone(alloc)?),
+    }
+    Ok(())
+}
+
+// The map has these pairs and no others.
+fn has_pairs(rt: &impl Abort, map: ZeroMapBorrowed<'_, u32, StrULE>, pairs: &[(u32, &str)]) {
+    assert!(rt; map.len() == pairs.len());
+    for ((key, value), pair) in map.iter().zip(pairs.iter()) {
+        assert!(rt; (key.value(), value.as_str()) == *pair);
+    }
+}
+
+// Makes a call on the map. It leaves these pairs, or the map as it was.
+fn try_call<'a, C, D>(rt: &impl Abort, alloc: Global, row: &Row<'_>) -> Result<(), Fail>
+where
+    C: MutableZeroVecLike<'a, u32>,
+    D: MutableZeroVecLike<'a, StrULE>,
+{
+    let mut map = Names::<C, D>::try_from_pairs(alloc, &[(1, "dos")])?;
+    let made = make(alloc, &mut map, row.call);
+    let wanted = if made.is_ok() {
+        row.after
+    } else {
+        &[(1, "dos")]
+    };
+    has_pairs(rt, map.as_borrowed(), wanted);
+    made?;
+    Ok(())
+}
+
+const ROWS: [Row<'static>; 9] = [
+    Row {
+        call: Call::Insert(0),
+        after: &[(0, "x"), (1, "dos")],
+    },
+    Row {
+        call: Call::Insert(1),
+        after: &[(1, "x")],
+    },
+    Row {
+        call: Call::Insert(2),
+        after: &[(1, "dos"), (2, "x")],
+    },
+    Row {
+        call: Call::Append(1),
+        after: &[(1, "dos")],
+    },
+    Row {
+        call: Call::Append(2),
+        after: &[(1, "dos"), (2, "x")],
+    },
+    Row {
+        call: Call::Remove(1),
+        after: &[],
+    },
+    Row {
+        call: Call::Remove(2),
+        after: &[(1, "dos")],
+    },
+    Row {
+        call: Call::Room,
+        after: &[(1, "dos")],
+    },
+    Row {
+        call: Call::Copy,
+        after: &[(1, "dos")],
+    },
+];
+
+// Makes each call.
+fn try_calls<'a, C, D>(rt: &impl Abort, alloc: Global) -> Result<(), Fail>
+where
+    C: MutableZeroVecLike<'a, u32>,
+    D: MutableZeroVecLike<'a, StrULE>,
+{
+    for row in &ROWS {
+        try_call::<C, D>(rt, alloc, row)?;
+    }
+    Ok(())
+}
+
+#[test]
+fn maps_are_as_they_were(rt: HostRuntime) -> Result<(), Fail> {
+    try_calls::<Of<'_, u32>, Of<'_, StrULE>>(&rt, rt.alloc())
+}
