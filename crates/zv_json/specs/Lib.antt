@@ -1,0 +1,10 @@
+pub mod Again
+pub mod Arrays
+pub mod Back
+pub mod Json
+pub mod Laws
+pub mod Nested
+pub mod Numbers
+pub mod Options
+pub mod Records
+pub mod Texts
