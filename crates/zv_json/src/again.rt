@@ -1,5 +1,5 @@
 // Kinds whose elements are read as they were written.
-ghost use Rattle.std.specs.Prelude.{◌≡◌, List, ℕ, Some, None, IsTrue};
+ghost use Rattle.std.specs.Prelude.{◌≡◌, List, ℕ, Some, None, IsTrue, sym};
 ghost use Rattle.zv_json.specs.Again.{AlikeBehind, EachAlike, ReadsAgain, bytes_again};
 ghost use Rattle.zv_json.specs.Again.{nested_again, second_usable, text_again, tuple_again};
 ghost use Rattle.zv_json.specs.Again.{value_again, value_named, values_again};
@@ -42,7 +42,7 @@ impl JsonAgain for StrULE {
 
     ghost again = { λ _. text_again ⟦<StrULE as ZvKind>⟧.fault };
 
-    ghost named_again = { λ e name _ _ is. is };
+    ghost named_again = { λ e name _ _ is. sym is };
 }
 
 impl<T: JsonValue> JsonAgain for ZeroSliceULE<T> {
