@@ -1,5 +1,6 @@
 // Kinds whose elements are read as they were written.
-ghost use Rattle.std.specs.Prelude.{◌≡◌, List, ℕ, Some, None, IsTrue, sym};
+ghost use Rattle.std.specs.Prelude.{◌≡◌, List, ℕ, Some, None, IsTrue};
+ghost use Rattle.std.proofs.Common.{sym};
 ghost use Rattle.zv_json.specs.Again.{AlikeBehind, EachAlike, ReadsAgain, bytes_again};
 ghost use Rattle.zv_json.specs.Again.{nested_again, second_usable, text_again, tuple_again};
 ghost use Rattle.zv_json.specs.Again.{value_again, value_named, values_again};
