@@ -8,8 +8,8 @@
 # hashes.txt print; its checksums are the same where it makes the same lists. What it prints of parse_text is the validation
 # of 10,000 texts.
 #
-# The timing programs, bench/timing.txt, changes.txt, tables.txt, hashes.txt, ranges.txt and records.txt, are Rattle crates that are no part of the
-# gate. They are proved and built in bench/out, a copy of the sources with the libraries that the tree has kept (`./zv --prove`
+# The timing programs, bench/timing.txt, changes.txt, tables.txt, hashes.txt, ranges.txt, records.txt and frames.txt, are Rattle crates that are
+# no part of the gate. They are proved and built in bench/out, a copy of the sources with the libraries that the tree has kept (`./zv --prove`
 # and `rt lib` keep them), and stay there: what didn't change is not built again. Each is run as soon as it is built.
 set -euo pipefail
 top=$(cd "$(dirname "$0")/.." && pwd)
@@ -66,10 +66,11 @@ build tables 'zv_map2d zv_map1 zv_ule'
 build hashes 'zv_hashmap zv_hash zv_ule'
 build ranges 'zv_props zv_ule'
 build records 'zv_multi zv_owned zv_ule'
+build frames 'zv_framed zv_map1 zv_owned zv_fixed zv_var zv_ule'
 beside "${1-}"
 say "all once more"
 echo "-- this repository"
-for name in timing changes tables hashes ranges records; do
+for name in timing changes tables hashes ranges records frames; do
     "$copy/crates/zv_$name/out/zv_$name"
 done
 beside "${1-}"
