@@ -8,7 +8,6 @@ use zv_fixed::ZeroVec;
 use zv_framed::{FormError, Framed};
 use zv_hashmap::ZeroHashMap;
 use zv_map1::ZeroMap;
-use zv_map2d::ZeroMap2d;
 use zv_owned::VarZeroVec;
 use zv_ule::{Index8, Index16, Index32, StrULE};
 
@@ -111,12 +110,6 @@ pub const TABLE: &[u8] = b"\
 fn maps(rt: HostRuntime) -> Result<(), Fail> {
     is_form::<ZeroMap<'_, u32, StrULE>>(&rt, rt.alloc(), MAP)?;
     is_form::<ZeroMap<'_, u32, StrULE>>(&rt, rt.alloc(), &[0; 16])
-}
-
-#[test]
-fn maps_in_two_levels(rt: HostRuntime) -> Result<(), Fail> {
-    is_form::<ZeroMap2d<'_, u32, u16, StrULE>>(&rt, rt.alloc(), MAP2D)?;
-    is_form::<ZeroMap2d<'_, u32, u16, StrULE>>(&rt, rt.alloc(), &[0; 32])
 }
 
 #[test]
