@@ -22,6 +22,7 @@ import model
 
 TOP = os.path.dirname(os.path.dirname(os.path.abspath(__file__)))
 PROGRAM = os.path.join(TOP, "crates", "zv", "out", "zv")
+FORMS = {"edit": model.edit, "layers": model.layers, "locale": model.locale}
 SHORT_KEYS = [b"", b"a", b"b", b"ab", b"abc", "é".encode(), "😀".encode(), b"A", b"a\0", b"k" * 12, b"k" * 13]
 NAMES = [b"en", b"en-GB", b"en-US", b"eng", b"de", b"de-AT", b"de-AT-1996", b"und", b"a", b"b"]
 LONG_KEYS = [b"q" * length for length in (32_760, 32_766, 65_520, 65_528, 65_533, 65_534, 65_535)]
@@ -106,16 +107,21 @@ class Inputs:
     def ask(self):
         return b" ".join([b"ask", self.field(self.key(self.keys0)), self.field(self.wanted())])
 
+    def lines(self, form):
+        """The lines of an input: images for `layers`, and else one image and commands or asks."""
+        if form == "layers":
+            return [self.field(self.image()) for _ in range(self.random.choice([1, 2, 2, 3, 5, 9, 64, 65]))]
+        line = self.command if form == "edit" else self.ask
+        return [self.field(self.image())] + [line() for _ in range(self.random.choice([0, 1, 2, 5, 20, 60]))]
+
     def text(self, form):
         """An input of a form of the program."""
         self.at_edges = self.chance(0.5)
-        self.keys0, self.keys1 = (SHORT_KEYS, SHORT_KEYS) if form == "edit" else (SHORT_KEYS[:3], NAMES)
-        line = self.command if form == "edit" else self.ask
+        self.keys0, self.keys1 = (SHORT_KEYS[:3], NAMES) if form == "locale" else (SHORT_KEYS, SHORT_KEYS)
         try:
-            image = self.image()
+            lines = self.lines(form)
         except OverflowError:  # the starts of so long a list don't fit their fields
             return self.text(form)
-        lines = [self.field(image)] + [line() for _ in range(self.random.choice([0, 1, 2, 5, 20, 60]))]
         text = bytearray(b"\n".join(lines) + (b"\n" if self.chance(0.8) else b""))
         if self.chance(0.1):
             at = self.random.randrange(len(text))
@@ -186,10 +192,10 @@ def main():
     inputs = Inputs(int(sys.argv[2]) if len(sys.argv) > 2 else 1)
     seen, end = collections.Counter(), time.monotonic() + seconds
     while time.monotonic() < end:
-        form = inputs.random.choice(["edit", "edit", "locale"])
+        form = inputs.random.choice(["edit", "edit", "locale", "layers"])
         text = inputs.text(form)
         done = subprocess.run([PROGRAM, form], input=text, capture_output=True, check=False)
-        wanted, status = {"edit": model.edit, "locale": model.locale}[form](text)
+        wanted, status = FORMS[form](text)
         if (done.stdout, done.returncode) != (wanted, status):
             with open("differs.txt", "wb") as file:
                 file.write(text)

@@ -1,9 +1,10 @@
-"""A model of `zv edit` and `zv make` in Python, written from docs/FORMATS.md and apart from the program: see compare.py."""
+"""A model of `zv edit`, `zv layers` and `zv make` in Python, written from docs/FORMATS.md and apart from the program: see compare.py."""
 import re
 
 MOST_NARROW = 65_535  # the most bytes of a list with fields of two bytes
 MOST = 4_294_967_295  # and of one with fields of four
 MOST_INPUT = 16_777_216
+MOST_LAYERS = 64
 MARK = b"\xff" * 8  # what a head begins with
 WIDTHS = {16: 2, 32: 4}  # the bytes of a field, by what a head names
 
@@ -218,6 +219,11 @@ def reply(rows, name, fields):
     return b"old " + spelled(old)
 
 
+def lines_of(text):
+    lines = text.split(b"\n")
+    return lines if lines[-1] else lines[:-1]
+
+
 def answer(rows, key, wanted):
     """What is found for a key and a wanted text."""
     names = ["-".join(locale[:end]) for locale in (each.split("-") for each in wanted.decode().split(",")) for end in range(len(locale), 0, -1)]
@@ -230,9 +236,7 @@ def answers(text, forms, tell):
     """What is written for an input whose lines have these forms, and its status; `tell` gives the lines that are due."""
     if len(text) > MOST_INPUT:
         return b"", 3
-    lines = text.split(b"\n")
-    if not lines[-1]:
-        lines.pop()
+    lines = lines_of(text)
     image = value_of(lines[0]) if lines else None
     asked = [line_of(forms, line) for line in lines[1:]]
     if image is None or None in asked:
@@ -257,6 +261,25 @@ def edit(text):
 def locale(text):
     """What `zv locale` writes for an input, and its status."""
     return answers(text, ASKS, lambda rows, asks: [answer(rows, *fields) for _, fields in asks])
+
+
+def layers(text):
+    """What `zv layers` writes for an input, and its status."""
+    if len(text) > MOST_INPUT:
+        return b"", 3
+    images = [value_of(line) for line in lines_of(text)]
+    bad = [number for number, image in enumerate(images, 1) if image is None or number > MOST_LAYERS]
+    if bad or not images:
+        return b"error line %d\n" % (bad[0] if bad else 1), 4
+    rows = {}
+    for number, image in enumerate(images, 1):
+        try:
+            over = parsed(image)
+        except Refused as cause:
+            return b"error layer %d %s\n" % (number, str(cause).encode()), 5
+        for key, row in over.items():
+            rows.setdefault(key, {}).update(row)
+    return b"image " + spelled(canonical(rows)) + b"\n", 0
 
 
 def make(count):

@@ -3,6 +3,7 @@ pub mod Common
 pub mod Edits
 pub mod Fitting
 pub mod Left
+pub mod Lines
 pub mod Looks
 pub mod PutRoom
 pub mod Served

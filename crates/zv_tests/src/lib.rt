@@ -14,6 +14,8 @@ mod heads;
 #[cfg(test)]
 mod large;
 #[cfg(test)]
+mod layers;
+#[cfg(test)]
 mod locales;
 #[cfg(test)]
 mod long_inputs;

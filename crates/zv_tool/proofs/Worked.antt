@@ -7,26 +7,28 @@ use Rattle.zv_command.specs.Inputs.{input_due}
 use Rattle.zv_command.specs.Runs.{of_input}
 use Rattle.zv_edit.specs.Requests.{edit_due, with_command}
 use Rattle.zv_tool.specs.Forms.{form_of, is_read, names_form, wanted}
-use Rattle.zv_tool.specs.declared.form.Form.TheVariants.{Edit, Locale, Look, Make, Props}
+use Rattle.zv_tool.specs.declared.form.Form.TheVariants.{Edit, Layers, Locale, Look, Make, Props}
 
 -- the forms; a word too many and too few; a key that is none; no words; numbers that are none or too large
 forms : map form_of (
     (codes "edit" ∷ []) ∷ (codes "look" ∷ codes "x61" ∷ codes "x" ∷ []) ∷ (codes "edit" ∷ codes "more" ∷ []) ∷ (codes "look" ∷ codes "x61" ∷ [])
     ∷ (codes "look" ∷ codes "x61" ∷ codes "xff" ∷ []) ∷ (codes "props" ∷ []) ∷ (codes "locale" ∷ []) ∷ (codes "locale" ∷ codes "x" ∷ [])
     ∷ (codes "make" ∷ []) ∷ [] ∷ (codes "make" ∷ codes "4000" ∷ [])
-    ∷ (codes "make" ∷ codes "4001" ∷ []) ∷ (codes "make" ∷ codes "01" ∷ []) ∷ (codes "make" ∷ codes "0" ∷ []) ∷ [])
+    ∷ (codes "make" ∷ codes "4001" ∷ []) ∷ (codes "make" ∷ codes "01" ∷ []) ∷ (codes "make" ∷ codes "0" ∷ [])
+    ∷ (codes "layers" ∷ []) ∷ (codes "layers" ∷ codes "x" ∷ []) ∷ [])
     ≡ Some Edit ∷ Some (Look (record { key0 = codes "a"; key1 = [] })) ∷ None ∷ None ∷ None ∷ Some Props ∷ Some Locale ∷ None ∷ None ∷ None
-    ∷ Some (Make 4000) ∷ None ∷ None ∷ Some (Make 0) ∷ []
+    ∷ Some (Make 4000) ∷ None ∷ None ∷ Some (Make 0) ∷ Some Layers ∷ None ∷ []
 unfolding decode_pairs is_utf8 chars lib.Utf8.encode
 forms = refl
 
 names : map names_form (
-    (codes "edit" ∷ codes "more" ∷ []) ∷ (codes "look" ∷ []) ∷ (codes "props" ∷ codes "x" ∷ []) ∷ (codes "make" ∷ []) ∷ (codes "made" ∷ []) ∷ [] ∷ [])
-    ≡ true ∷ true ∷ true ∷ true ∷ false ∷ false ∷ []
+    (codes "edit" ∷ codes "more" ∷ []) ∷ (codes "look" ∷ []) ∷ (codes "props" ∷ codes "x" ∷ []) ∷ (codes "make" ∷ []) ∷ (codes "made" ∷ []) ∷ []
+    ∷ (codes "layers" ∷ codes "x" ∷ []) ∷ [])
+    ≡ true ∷ true ∷ true ∷ true ∷ false ∷ false ∷ true ∷ []
 names = refl
 
-reads : map is_read ((codes "edit" ∷ []) ∷ (codes "props" ∷ []) ∷ (codes "look" ∷ []) ∷ (codes "make" ∷ codes "1" ∷ []) ∷ [] ∷ [])
-    ≡ true ∷ true ∷ false ∷ false ∷ false ∷ []
+reads : map is_read ((codes "edit" ∷ []) ∷ (codes "props" ∷ []) ∷ (codes "look" ∷ []) ∷ (codes "make" ∷ codes "1" ∷ []) ∷ [] ∷ (codes "layers" ∷ []) ∷ [])
+    ≡ true ∷ true ∷ false ∷ false ∷ false ∷ true ∷ []
 reads = refl
 
 edit_wants : wanted (codes "edit" ∷ []) ≡ of_input (input_due with_command edit_due [])

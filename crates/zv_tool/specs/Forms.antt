@@ -12,12 +12,13 @@ use Rattle.zv_command.specs.Runs.{Wanted, at_once, of_input, reads_input}
 use Rattle.zv_command.specs.Text.{line}
 use Rattle.zv_command.specs.declared.status.Status.TheVariants.{Usage}
 use Rattle.zv_edit.specs.Requests.{edit_due, look_due, with_command}
+use Rattle.zv_layers.specs.Requests.{layers_due, with_layer}
 use Rattle.zv_locale.specs.Asks.{locale_due, with_ask}
 use Rattle.zv_make.specs.Summary.{make_due}
 use Rattle.zv_make.specs.declared.puts.TheConstants.{MAX_PUTS}
 use Rattle.zv_props.specs.Requests.{props_due, with_step}
 use Rattle.zv_tool.specs.declared.form.Form.{Form}
-use Rattle.zv_tool.specs.declared.form.Form.TheVariants.{Edit, Locale, Look, Make, Props}
+use Rattle.zv_tool.specs.declared.form.Form.TheVariants.{Edit, Layers, Locale, Look, Make, Props}
 
 -- ---- the words of a form
 
@@ -45,11 +46,12 @@ make_of words = do
   pair ← two_words words
   if bytes_eq pair.0 (codes "make") then option_map Make (number MAX_PUTS pair.1) else None
 
--- the form that the words are, `edit`, `props`, `locale`, `make` and a number, or `look` and two
--- keys
+-- the form that the words are, `edit`, `layers`, `props`, `locale`, `make` and a number, or `look`
+-- and two keys
 abbrev pub form_of : List (List ℕ) → Option Form
 form_of words =
     if is_word (codes "edit") words then Some Edit
+    else if is_word (codes "layers") words then Some Layers
     else if is_word (codes "props") words then Some Props
     else if is_word (codes "locale") words then Some Locale
     else option_or (make_of words) (look_of words)
@@ -59,7 +61,8 @@ abbrev pub names_form : List (List ℕ) → Bool
 names_form [] = false
 names_form (word ∷ rest) =
     bytes_eq word (codes "edit") || bytes_eq word (codes "look") || bytes_eq word (codes "props")
-    || bytes_eq word (codes "locale") || bytes_eq word (codes "make")
+    || bytes_eq word (codes "layers") || bytes_eq word (codes "locale")
+    || bytes_eq word (codes "make")
 
 -- ---- what is wanted
 
@@ -67,6 +70,7 @@ names_form (word ∷ rest) =
 abbrev pub wanted_of : Form → Wanted
 wanted_of Edit = of_input (input_due with_command edit_due [])
 wanted_of (Look look) = of_input (input_due with_no_line look_due look)
+wanted_of Layers = of_input (input_due with_layer layers_due [])
 wanted_of Locale = of_input (input_due with_ask locale_due [])
 wanted_of Props = of_input (input_due with_step props_due [])
 wanted_of (Make count) = at_once (make_due count)

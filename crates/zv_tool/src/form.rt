@@ -17,6 +17,8 @@ pub(crate) enum Form {
     Edit,
     /// A pair of keys is looked up in an image.
     Look(Look),
+    /// Images are laid one over another.
+    Layers,
     /// An image is asked for the data of locales.
     Locale,
     /// A table of code point ranges is asked and changed.
@@ -101,6 +103,9 @@ pub(crate) fn read_form(alloc: Global, words: &Words) -> Result<Option<Form>, No
 {
     if is_word(words, "edit") {
         return Ok(Some(Form::Edit));
+    }
+    if is_word(words, "layers") {
+        return Ok(Some(Form::Layers));
     }
     if is_word(words, "props") {
         return Ok(Some(Form::Props));

@@ -13,6 +13,7 @@ pub use zv_devices::{
 };
 pub use zv_edit::{Edit, Look, edit2d, laws, look2d, serve};
 pub use zv_input::{Command, Commands, CommandsError, KeyText, MAX_COMMANDS, ValueBytes};
+pub use zv_layers::{Layers, overlay_counted, overlay_maps};
 pub use zv_locale::{Asks, Provided, Wanted, provide, provide_counted};
 pub use zv_map2d::{EditError, ImageMap, parse_image};
 pub use zv_props::{Props, PropsError, Step, TableSteps};

@@ -12,6 +12,7 @@ use std::alloc::Global;
 use zv_command::{MAX_INPUT, Status, run_request, send};
 use zv_devices::{Sink, Source};
 use zv_edit::Edit;
+use zv_layers::Layers;
 use zv_locale::Asks;
 use zv_make::make;
 use zv_props::TableSteps;
@@ -25,6 +26,7 @@ fn run_form<S: Source, K: Sink>(alloc: Global, form: Form, source: &mut S, sink:
     match form {
         Form::Edit => run_request(alloc, Edit::new(alloc), source, sink),
         Form::Look(look) => run_request(alloc, look, source, sink),
+        Form::Layers => run_request(alloc, Layers::new(alloc), source, sink),
         Form::Locale => run_request(alloc, Asks::new(alloc), source, sink),
         Form::Props => run_request(alloc, TableSteps::new(alloc), source, sink),
         Form::Make(count) => make(alloc, count, sink),
@@ -34,10 +36,10 @@ fn run_form<S: Source, K: Sink>(alloc: Global, form: Form, source: &mut S, sink:
 /// All that the program does: reads the source to its end, answers to the sink, and says how it
 /// ended.
 ///
-/// The command forms are `edit`, `look F F`, `locale`, `props` and `make N`. Line 1 of the input is
-/// `x` and the bytes of an image, or of a table for `props`, in hex. For `look` it is the only
-/// line, and the answer is `some xV` or `none`, for the pair of keys that the fields are. For
-/// `edit` each further line is a command, which runs on the map that those before it left:
+/// The command forms are `edit`, `look F F`, `layers`, `locale`, `props` and `make N`. Line 1 of
+/// the input is `x` and the bytes of an image, or of a table for `props`, in hex. For `look` it is
+/// the only line, and the answer is `some xV` or `none`, for the pair of keys that the fields are.
+/// For `edit` each further line is a command, which runs on the map that those before it left:
 ///
 /// - `get K K` looks up a pair of keys, and is answered `some xV`, or `none`;
 /// - `put K K F` gives a pair a value, and is answered `new`, or `old xV` with the value that the
@@ -45,6 +47,11 @@ fn run_form<S: Source, K: Sink>(alloc: Global, form: Form, source: &mut S, sink:
 /// - `del K K` removes a pair, and is answered `old xV`, or `none`;
 /// - `row K` lists the pairs of a first key in order, and is answered `row` and ` xK xV` for each,
 ///   or `none`.
+///
+/// For `layers` each further line is an image as line 1 is, and there are at most 64. The answer is
+/// `image xI`, the canonical image of the map that has for each pair of keys the value of the last
+/// image that gives it one. The first image that has a fault, counted from 1, is refused with
+/// `error layer N` and the word of the fault.
 ///
 /// For `locale` each further line asks for the data of a first key that is the best for a wanted
 /// text, 1 to 16 locales joined by `,`, each of subtags of 1 to 8 ASCII letters or digits joined by

@@ -1,0 +1,11 @@
+mod Worked
+pub mod Common
+pub mod Found
+pub mod Laid
+pub mod Laying
+pub mod Limits
+pub mod Overlays
+pub mod Puts
+pub mod Sizes
+pub mod Steps
+pub mod Walks

@@ -1,0 +1,5 @@
+pub mod Laws
+pub mod Overlays
+pub mod Puts
+pub mod Requests
+pub mod Walks
