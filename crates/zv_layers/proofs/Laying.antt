@@ -1,7 +1,8 @@
 -- Images, laid one after another, and what is due to them.
+use Rattle.zv_image.proofs.Faults.{told}
 use Rattle.zv_layers.specs.Requests.{layers_due}
-use Rattle.zv_layers.proofs.Common.{◌≡◌, ◌∙◌, ◌+◌, ◌<◌, ℕ, List, [], ◌∷◌, Option, Some, None, Result, Ok, Err, Vec, refl, ap, sym, inl, inr, subst, drop}
-use Rattle.zv_layers.proofs.Common.{get_or, length, drop_more, Global, HasCause, Takes, Failed, fault, Rows, EditError, tells_sent, Tells, text_due, Status}
+use Rattle.zv_layers.proofs.Common.{◌≡◌, ◌∙◌, ◌+◌, ◌<◌, ℕ, List, [], ◌∷◌, Option, Some, None, Result, Vec, refl, ap, sym, subst, drop}
+use Rattle.zv_layers.proofs.Common.{get_or, length, drop_more, Global, HasCause, Takes, Failed, fault, Rows, EditError, Tells, text_due, Status}
 use Rattle.zv_layers.proofs.Common.{BadImage, Done, status_of, IsLaid, IsRefusalOf, Leaves, bytes_of_all, fault_or, first_fault, laid_due, layer_line}
 use Rattle.zv_layers.proofs.Common.{Refusal, Fault}
 use Rattle.zv_layers.specs.declared.form.Refusal.TheVariants.{Memory}
@@ -61,9 +62,8 @@ module _ (first : List ℕ) (more : List (List ℕ)) where
   unfolding layers_due
   due_laid is = ap (λ f. laid_due f (IsLaid (first ∷ more))) is
 
-  -- an answer on images without a fault, whole or cut short
+  -- an answer on images without a fault
   pub answered : {K : Type 0} {taken : K → Option (List ℕ)} {faults : K → ℕ} {old new : K} {result : Status} (text : List ℕ) (r : Result Unit Failed)
       → first_fault 1 (first ∷ more) ≡ None → IsLaid (first ∷ more) text → Takes (taken old) (taken new) r text
       → HasCause (faults old) (faults new) r → result ≡ status_of r → Tells taken faults old new result (layers_due first more)
-  answered text (Ok u) none is taken cause ends = rw (due_laid none) (tells_sent text refl is (inl (ends, taken)) cause.later)
-  answered text (Err e) none is taken cause ends = rw (due_laid none) (tells_sent text refl is (inr (ends, cause.failed, taken)) cause.later)
+  answered text r none is taken cause ends = rw (due_laid none) (told (IsLaid (first ∷ more)) text r is taken cause ends)

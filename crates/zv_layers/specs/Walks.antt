@@ -32,9 +32,9 @@ abbrev pub laid_rows : Rows → Rows → Rows
 laid_rows = laid over_row
 
 -- how many a head holds
-abbrev pub held : {T : Type 0} → Option T → ℕ
-held None = 0
-held (Some t) = 1
+abbrev pub count_of : {T : Type 0} → Option T → ℕ
+count_of None = 0
+count_of (Some t) = 1
 
 -- what is taken of two heads, by how the upper one's key compares with the lower one's, and the
 -- heads that are left

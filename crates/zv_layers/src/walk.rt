@@ -1,7 +1,7 @@
 // Two ascending lists, walked side by side.
 ghost use Rattle.std.specs.Prelude.{◌≡◌, ◌≤◌, ◌+◌, List, ℕ, MatchOption};
 ghost use Rattle.zv_ule.specs.Views.{element_of};
-ghost use Rattle.zv_layers.specs.Walks.{held, next_of};
+ghost use Rattle.zv_layers.specs.Walks.{count_of, next_of};
 
 use std::cmp::Ordering;
 use std::sync::ledger::Ledger;
@@ -67,7 +67,7 @@ pub(crate) fn take_next<T: Keyed, L: Ledger>(
     steps: &mut Steps<L>,
 ) -> Option<Next<T>>
     ensures next { (result, lower.new, upper.new) ≡ next_of T.key lower.old upper.old }
-    ensures steps { steps.new ≤ steps.old + held result }
+    ensures steps { steps.new ≤ steps.old + count_of result }
     ensures counted { steps.old ≤ steps.new }
 {
     let (base, over) = match (lower.take(), upper.take()) {
