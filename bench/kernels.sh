@@ -9,8 +9,8 @@
 # of 10,000 texts.
 #
 # The timing programs, bench/timing.txt, changes.txt, tables.txt, hashes.txt, ranges.txt, records.txt and frames.txt, are Rattle crates that are
-# no part of the gate. They are proved and built in bench/out, a copy of the sources with the libraries that the tree has kept (`./zv --prove`
-# and `rt lib` keep them), and stay there: what didn't change is not built again. Each is run as soon as it is built.
+# no part of the gate. They are proved and built in bench/out, a copy of the sources with the libraries that the tree has built (`.ci/run`,
+# `./zv --prove` and `rt lib` leave them), and stay there: what didn't change is not built again. Each is run as soon as it is built.
 set -euo pipefail
 top=$(cd "$(dirname "$0")/.." && pwd)
 copy=$top/bench/out
@@ -19,20 +19,30 @@ say() {
     echo "kernels.sh: $* ($((SECONDS / 60)) min $((SECONDS % 60)) s)" >&2
 }
 
-# The sources anew, and each library that the tree has built from them.
+# The sources anew, and each library that the tree has built from them, by `rt lib` or in the gate.
 copy_tree() {
     mkdir -p "$copy"
     rm -rf "$copy"/crates/*/{src,specs,proofs}
     (cd "$top" && git ls-files -z -- crates crates.txt HANDLES | xargs -0 cp --parents -t "$copy")
+    local of_gate=()
     for rlib in "$top"/crates/*/out/rlib; do
-        kept=$copy/crates/$(basename "$(dirname "$(dirname "$rlib")")")/out/rlib
-        if [ -f "$rlib/stamp" ] && ! cmp -s "$rlib/stamp" "$kept/stamp"; then
-            rm -rf "$kept"
-            mkdir -p "$(dirname "$kept")"
-            cp -rl "$rlib" "$kept"
+        crate=$(dirname "$(dirname "$rlib")")
+        kept=$copy/crates/$(basename "$crate")/out/rlib
+        if [ -f "$rlib/stamp" ]; then
+            if cmp -s "$rlib/stamp" "$kept/stamp"; then continue; fi
+        elif [ -n "$(find "$crate"/{src,specs,proofs} -newer "$rlib" -print -quit 2> /dev/null)" ]; then
+            continue
+        else
+            of_gate+=("$(dirname "$(dirname "$kept")")")
         fi
+        rm -rf "$kept"
+        mkdir -p "$(dirname "$kept")"
+        cp -rl "$rlib" "$kept"
     done
     [ -d "$copy/.git" ] || git init -q "$copy"
+    if [ ${#of_gate[@]} -gt 0 ]; then
+        "$top/bench/mark_built.py" "$copy" "${of_gate[@]}"
+    fi
 }
 
 # Proves and builds a timing program over the libraries that it names, and runs it.

@@ -1,11 +1,10 @@
 // Commands that run on the map of an image.
-ghost use Rattle.std.specs.Prelude.{◌≡◌, ◌≤◌, ◌+◌, [], ◌∷◌, ◌++◌};
+ghost use Rattle.std.specs.Prelude.{◌≡◌, ◌≤◌};
 ghost use Rattle.std.specs.Prelude.{IsTrue, IfErr, OnOk, IsErrOf, None, Some};
 ghost use Rattle.zv_map2d.specs.Causes.{is_cause};
 ghost use Rattle.zv_map2d.specs.Image.{fault};
 ghost use Rattle.zv_edit.specs.Answers.{IsAnswer};
 ghost use Rattle.zv_devices.specs.Devices.{Rose, Written, CutShort};
-ghost use Rattle.zv_input.specs.Commands.{command_size, total_size};
 
 use crate::serving::serve;
 use std::alloc::Global;
@@ -13,7 +12,7 @@ use std::marker::Model;
 use zv_command::{Request, Status};
 use zv_devices::{Failed, Sink};
 use zv_image::{refuse, reserve};
-use zv_input::{Command, Commands, CommandsError, MAX_COMMANDS, read_command};
+use zv_input::{Commands, read_command};
 use zv_map2d::{EditError, parse_image};
 use zv_ule::NoMemory;
 
@@ -84,18 +83,6 @@ impl Edit {
     }
 }
 
-// Adds a command, for which there is room.
-fn keep(commands: &mut Commands, command: Command) -> Result<(), NoMemory>
-    requires { total_size commands.old + command_size command ≤ MAX_COMMANDS }
-    ensures { OnOk result (commands.new ≡ commands.old ++ command ∷ []) }
-{
-    match commands.push(command) {
-        Ok(()) => Ok(()),
-        Err(CommandsError::Memory) => Err(NoMemory),
-        Err(CommandsError::Full) => unreachable!(),
-    }
-}
-
 impl Request for Edit {
     ghost use Rattle.zv_input.specs.Commands.{total_size};
     ghost use Rattle.zv_edit.specs.Requests.{edit_due, with_command};
@@ -106,11 +93,12 @@ impl Request for Edit {
 
     ghost due = { edit_due };
 
+    #[tactic(auto, using(crate::proofs::Fitting::line_fits))]
     fn add_line(&mut self, alloc: Global, line: &[u8]) -> Result<bool, NoMemory> {
         let Some(command) = read_command(alloc, line)? else {
             return Ok(false);
         };
-        keep(&mut self.commands, command)?;
+        self.commands.add(command)?;
         Ok(true)
     }
 

@@ -18,7 +18,7 @@ field_is (mark ∷ digits) = let of = decode_of-ok digits in grind arith
 abbrev IsKeyOf : List ℕ → List ℕ → Type 0
 IsKeyOf word text = IsFieldOf word text × (text_fault text ≡ None)
 
-key_is : (word : List ℕ) → IfSome (key word) (IsKeyOf word)
+pub key_is : (word : List ℕ) → IfSome (key word) (IsKeyOf word)
 key_is word = let long = field_is word in grind arith
 
 -- ---- commands

@@ -6,6 +6,7 @@ use crate::command::{Command, command_size};
 use crate::sizes::PutSizes;
 use std::alloc::Global;
 use std::marker::Model;
+use zv_ule::NoMemory;
 
 /// The most that a list's commands come to: 1 for each, and the lengths of all their fields.
 pub const MAX_COMMANDS: usize = 16_777_216;
@@ -91,6 +92,22 @@ impl Commands {
         self.size += size;
         self.puts = puts;
         Ok(())
+    }
+
+    /// Adds a command, for which the list has room.
+    #[tactic(auto, using(crate::proofs::SizesOfPuts::added_sizes))]
+    pub fn add(&mut self, command: Command) -> Result<(), NoMemory>
+        requires { total_size self.old + command_size command ≤ MAX_COMMANDS }
+        ensures ok { OnOk result (self.new ≡ self.old ++ command ∷ []) }
+        ensures size { OnOk result
+            (total_size self.new ≡ total_size self.old + command_size command) }
+        ensures err { OnErr result (self.new ≡ self.old) }
+    {
+        match self.push(command) {
+            Ok(()) => Ok(()),
+            Err(CommandsError::Memory) => Err(NoMemory),
+            Err(CommandsError::Full) => unreachable!(),
+        }
     }
 
     /// How many commands there are.

@@ -1,20 +1,15 @@
 -- Where texts are cut.
-use Rattle.std.proofs.Common.{◌≡◌, ◌∙◌, ◌==◌, ◌<◌, ◌≤◌, ◌+◌, ℕ, List, [], ◌∷◌, ◌++◌, length, get_or, take, drop, true}
-use Rattle.std.proofs.Common.{false, Bool, append-nil, append_assoc, codes, ◌||◌, length-append, None, Some, Option, refl, sym, ap, arith, lit<, Bor}
-use Rattle.std.specs.Prelude.{◌≢◌, MatchOption, map, if◌then◌else◌}
+use Rattle.zv_locale.proofs.Common.{◌≡◌, ◌∙◌, ◌==◌, ◌<◌, ◌≤◌, ◌+◌, ℕ, List, [], ◌∷◌, ◌++◌, length, get_or, take, drop, true, false, Bool, append-nil}
+use Rattle.zv_locale.proofs.Common.{append_assoc, codes, ◌||◌, length-append, None, Some, Option, refl, sym, ap, arith, lit<, Bor, ◌≢◌, MatchOption, map}
+use Rattle.zv_locale.proofs.Common.{if◌then◌else◌, option_map_or, length-map, map-append, take-append-drop, All-from_get_or, slice_split_at, slice_split_none}
+use Rattle.zv_locale.proofs.Common.{length-slice_split, slice_split-cons_no, slice_split-cons_yes, fronts, names_of, tries, locales, subtags}
 use Rattle.std.specs.List.{All, count_by, flat_map, onto_first}
-use Rattle.std.specs.Option.{option_map_or}
 use Rattle.std.specs.Str.Pattern.{RFindsChar, SplitsAroundMatch}
-use Rattle.std.proofs.lemmas.List.{length-map, map-append, take-append-drop}
 use Rattle.std.proofs.lemmas.Simd.{map-map}
-use Rattle.std.proofs.lemmas.List.Elements.{All-from_get_or}
 use Rattle.std.proofs.lemmas.List.Concat.{flat_map-cons}
 use Rattle.std.proofs.lemmas.List.Sums.{sum_by-cons}
-use Rattle.std.proofs.lemmas.List.Splits.{slice_split_at, slice_split_none, length-slice_split, slice_split-cons_no, slice_split-cons_yes}
 use Rattle.std.proofs.lemmas.Str.Pattern.{IsSplitOnceResult, NoCharPasses-char, drop_at_char, split_parts}
 use Rattle.std.proofs.lemmas.Bool.{eqb-true}
-use Rattle.zv_locale.specs.Names.{fronts, names_of, tries}
-use Rattle.zv_locale.specs.Wanted.{locales, subtags}
 
 -- no byte of the text is this one
 abbrev Lacks : ℕ → List ℕ → Type 0
@@ -48,9 +43,6 @@ names_step b rest false is =
     rw (slice_split-cons_no (λ x. x == 45) b rest is)
     (onto_fronts b (subtags rest) (omega (arith, length-slice_split (λ x. x == 45) rest)) ∙ sym (append-nil _))
 
-only_name : (text : List ℕ) → Lacks 45 text → names_of text ≡ text ∷ []
-only_name text none = rw (slice_split_none (λ b. b == 45) text none) refl
-
 name_and : (front last : List ℕ) → Lacks 45 last → names_of (front ++ 45 ∷ last) ≡ (front ++ 45 ∷ last) ∷ names_of front
 name_and [] last none = rw (slice_split_none (λ b. b == 45) last none) refl
 name_and (b ∷ front) last none = rw (names_step b (front ++ 45 ∷ last) (b == 45) refl, name_and front last none, names_step b front (b == 45) refl) refl
@@ -58,7 +50,7 @@ name_and (b ∷ front) last none = rw (names_step b (front ++ 45 ∷ last) (b ==
 pub cut_last : (text : List ℕ) (r : Option (Bor (List ℕ) × Bor (List ℕ)))
     → MatchOption r (RFindsChar 45 text None) (λ x. SplitsAroundMatch (RFindsChar 45) text x.0.now x.1.now)
     → names_of text ≡ text ∷ option_map_or (λ x. names_of x.0.now) r []
-cut_last text None is = only_name text (lacks 45 text (λ i lt. NoCharPasses-char 45 text i is (lit< tt) lt))
+cut_last text None is = rw (slice_split_none (λ b. b == 45) text (lacks 45 text (λ i lt. NoCharPasses-char 45 text i is (lit< tt) lt))) refl
 cut_last text (Some x) is =
     let at : drop is.0 text ≡ 45 ∷ drop is.1 text = drop_at_char 45 text is.0 is.1 is.2.1 (lit< tt) in
     let whole : text ≡ take is.0 text ++ 45 ∷ drop is.1 text = sym (take-append-drop is.0 text) ∙ ap (λ l. take is.0 text ++ l) at in

@@ -1,5 +1,5 @@
 mod Worked
+pub mod Common
 pub mod Cuts
 pub mod Lines
 pub mod Searches
-pub mod Sent

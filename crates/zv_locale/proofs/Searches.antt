@@ -1,10 +1,7 @@
 -- Names that are looked for in a row, one after another.
-use Rattle.std.proofs.Common.{◌≡◌, ◌∙◌, ◌<◌, ◌≤◌, ◌+◌, ◌-◌, ◌*◌, ◌^◌, ℕ, List, ◌∷◌, length, None, Some, ap, arith}
+use Rattle.zv_locale.proofs.Common.{◌≡◌, ◌∙◌, ◌<◌, ◌≤◌, ◌+◌, ◌-◌, ◌*◌, ◌^◌, ℕ, List, ◌∷◌, length, None, Some, ap, arith, option_map_or, look_up, by_bytes}
 use Rattle.std.proofs.Math.Nat.{suc-mul}
-use Rattle.std.specs.Option.{option_map_or}
 use Rattle.zv_ule.specs.Search.{AtMostDigits}
-use Rattle.zv_map.specs.Maps.{look_up}
-use Rattle.zv_map2d.specs.Image.{by_bytes}
 use Rattle.zv_locale.specs.Bounds.{AtMostDigitsOfTries}
 use Rattle.zv_locale.specs.Provided.{first_found}
 

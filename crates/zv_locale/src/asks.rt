@@ -11,7 +11,7 @@ use std::marker::Model;
 use zv_command::{Request, Status};
 use zv_devices::Sink;
 use zv_image::{refuse, status_of};
-use zv_input::{Command, Commands, CommandsError, KeyText, MAX_COMMANDS, read_key, split_at_byte};
+use zv_input::{Command, Commands, KeyText, MAX_COMMANDS, read_key, split_at_byte};
 use zv_map2d::parse_image;
 use zv_ule::NoMemory;
 
@@ -49,13 +49,11 @@ impl Asks {
     fn keep(&mut self, ask: Command) -> Result<(), NoMemory>
         requires ask { IsAsk ask }
         requires room { total_size self.old + command_size ask ≤ MAX_COMMANDS }
-        ensures { OnOk result (self.new ≡ self.old ++ ask ∷ []) }
+        ensures ask { OnOk result (self.new ≡ self.old ++ ask ∷ []) }
+        ensures size { OnOk result
+            (total_size self.new ≡ total_size self.old + command_size ask) }
     {
-        match self.asks.push(ask) {
-            Ok(()) => Ok(()),
-            Err(CommandsError::Memory) => Err(NoMemory),
-            Err(CommandsError::Full) => unreachable!(),
-        }
+        self.asks.add(ask)
     }
 }
 
@@ -125,6 +123,7 @@ impl Request for Asks {
 
     ghost due = { locale_due };
 
+    #[tactic(auto, using(crate::proofs::Lines::line_fits))]
     fn add_line(&mut self, alloc: Global, line: &[u8]) -> Result<bool, NoMemory> {
         let Some(ask) = read_ask(alloc, line)? else {
             return Ok(false);

@@ -62,7 +62,7 @@ fn write_answer<K: Sink>(
 }
 
 // Writes the lines of what asks are provided, and sends them.
-#[tactic(auto, using(crate::proofs::Sent::sends_each))]
+#[tactic(auto, using(crate::proofs::Common::sends_each))]
 fn write_answers<K: Sink>(
     out: &mut Output<'_, K>,
     map: &ImageMap<'_>,

@@ -1,7 +1,5 @@
-use Rattle.std.proofs.Common.{◌∙◌, [], ap, sym}
-use Rattle.std.specs.Option.{option_map_or}
+use Rattle.zv_locale.proofs.Common.{◌∙◌, [], ap, sym, option_map_or, left}
 use Rattle.zv_locale.proofs.Searches.{seeks_found, seeks_more}
-use Rattle.zv_locale.specs.Texts.{left}
 use Rattle.zv_locale.proofs.lookup.find_first.Goals as goal
 
 pub loop-next-preserved : goal.loop-next-preserved

@@ -1,8 +1,5 @@
-use Rattle.std.proofs.Common.{[], length}
-use Rattle.std.specs.Option.{option_map_or}
+use Rattle.zv_locale.proofs.Common.{[], length, option_map_or, tries, left}
 use Rattle.zv_locale.proofs.Searches.{Seeks}
-use Rattle.zv_locale.specs.Names.{tries}
-use Rattle.zv_locale.specs.Texts.{left}
 use Rattle.zv_locale.proofs.lookup.find_first.Given as goal
 
 abbrev pub decreases-loop-next : goal.decreases-loop-next

@@ -1,8 +1,4 @@
-use Rattle.std.proofs.Common.{ap, sym, subst, arith}
-use Rattle.std.proofs.lemmas.List.{drop_all}
-use Rattle.std.proofs.lemmas.List.Elements.{All-get_or}
-use Rattle.zv_command.proofs.Sending.{completes_last}
-use Rattle.zv_locale.specs.Asks.{IsAsk, answers}
+use Rattle.zv_locale.proofs.Common.{ap, sym, subst, arith, drop_all, All-get_or, completes_last, IsAsk, answers}
 use Rattle.zv_locale.proofs.replies.write_answers.Goals as goal
 
 pub write_answer-requires : goal.write_answer-requires

@@ -1,6 +1,4 @@
-use Rattle.std.proofs.Common.{drop}
-use Rattle.zv_command.proofs.Sending.{Completes}
-use Rattle.zv_locale.specs.Asks.{answers}
+use Rattle.zv_locale.proofs.Common.{drop, Completes, answers}
 use Rattle.zv_locale.proofs.replies.write_answers.Given as goal
 
 -- the lines of the asks that are left are to come

@@ -1,4 +1,4 @@
-use Rattle.std.proofs.Common.{None, Some}
+use Rattle.zv_locale.proofs.Common.{None, Some}
 use Rattle.zv_locale.proofs.Cuts.{cut_last}
 use Rattle.zv_locale.proofs.walk.without_last.Goals as goal
 

@@ -1,6 +1,5 @@
-use Rattle.std.proofs.Common.{lit<}
+use Rattle.zv_locale.proofs.Common.{lit<, YieldsList-from_str_split}
 use Rattle.std.proofs.lemmas.Iterator.Consumers.{count_from_yields_List}
-use Rattle.std.proofs.lemmas.Iterator.Splits.{YieldsList-from_str_split}
 use Rattle.zv_locale.proofs.wanted.count_locales.Goals as goal
 
 pub returns : goal.returns

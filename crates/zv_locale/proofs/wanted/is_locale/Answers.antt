@@ -1,7 +1,4 @@
-use Rattle.std.proofs.Common.{rules, lit<, tests}
-use Rattle.std.proofs.lemmas.Iterator.Search.{all_from_yields_List}
-use Rattle.std.proofs.lemmas.Iterator.Splits.{YieldsList-from_str_split}
-use Rattle.zv_locale.specs.Wanted.{is_subtag}
+use Rattle.zv_locale.proofs.Common.{rules, lit<, tests, all_from_yields_List, YieldsList-from_str_split, is_subtag}
 use Rattle.zv_locale.proofs.wanted.is_locale.Goals as goal
 
 pub returns : goal.returns

@@ -1,6 +1,5 @@
-use Rattle.std.proofs.Common.{◌∙◌, ap, sym}
+use Rattle.zv_locale.proofs.Common.{◌∙◌, ap, sym, IsAnswered, answers}
 use Rattle.zv_image.proofs.Faults.{answered, refused}
-use Rattle.zv_locale.specs.Asks.{IsAnswered, answers}
 use Rattle.zv_locale.proofs.asks.AsksRequest.answer.Goals as goal
 
 pub returns-in-Err : goal.returns-in-Err

@@ -1,4 +1,4 @@
-use Rattle.std.proofs.Common.{None, Some}
+use Rattle.zv_locale.proofs.Common.{None, Some}
 use Rattle.zv_locale.proofs.Cuts.{first_names}
 use Rattle.zv_locale.proofs.walk.Try.first.Goals as goal
 
