@@ -68,6 +68,29 @@ def asks(table, size):
     return out + block * max(1, (size - len(out)) // len(block))
 
 
+def layer(number, count, apart):
+    """An image of about 1 MB: names of `count` territories in 150 languages; layers `apart` have no pair in common."""
+    codes = range(number * count, number * count + count) if apart else range(count)
+    return {b"l%03d" % i: {b"%05d" % j: b"name %d of %d" % (number, j) for j in codes} for i in range(150)}
+
+
+def laid(layers):
+    """The pairs of all layers, the last one on top."""
+    table = {}
+    for each in layers:
+        for first, row in each.items():
+            table.setdefault(first, {}).update(row)
+    return table
+
+
+def beside_edit(name, layers, runs):
+    """The time of `layers` beside that of `edit` with no commands on each of its images and on its answer."""
+    images = [spelled(canonical(each)) + b"\n" for each in layers]
+    time, peak = measure("layers", b"".join(images), runs)
+    edits = sum(measure("edit", image, runs)[0] for image in images + [spelled(canonical(laid(layers))) + b"\n"])
+    print(f"{name:40} {sum(map(len, images)):10} {time * 1000:7.0f} ms {peak / 1024:16.1f} MB, {time / edits:.2f} of edit")
+
+
 def measure(form, data, runs):
     least, peak = None, 0
     with tempfile.TemporaryDirectory() as folder:
@@ -119,6 +142,8 @@ def main():
         a_line = f"{time * 1e9 / lines:7.0f} ns" if lines else " " * 10
         ratio = peak * 1024 / len(data)
         print(f"{name:40} {len(data):10} {time * 1000:7.0f} ms {a_line} {peak / 1024:7.1f} MB {ratio:9.1f}x")
+    for name, apart in [("8 layers of 1 MB, no pair in common", True), ("8 layers of 1 MB, the same pairs", False)]:
+        beside_edit(name, [layer(number, 240, apart) for number in range(8)], runs)
 
 
 if __name__ == "__main__":

@@ -11,4 +11,6 @@ mod hashes;
 #[cfg(test)]
 mod keys;
 #[cfg(test)]
+mod records;
+#[cfg(test)]
 mod tables;
