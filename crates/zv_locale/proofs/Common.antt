@@ -1,6 +1,6 @@
 -- The names that several proofs cite, passed on from one place.
 pub use Rattle.std.proofs.Common.{Bool, Bor, List, None, Option, Some, [], ap, append-nil, append_assoc, arith, codes, drop, false, get_or, length}
-pub use Rattle.std.proofs.Common.{length-append, lit<, refl, rules, subst, sum_by, sym, take, tests, true, ℕ, ◌*◌, ◌++◌, ◌+◌, ◌-◌, ◌<◌, ◌==◌, ◌^◌, ◌||◌, ◌∙◌}
+pub use Rattle.std.proofs.Common.{length-append, lit<, refl, rules, subst, sum_by, sym, take, tests, true, ℕ, ◌*◌, ◌++◌, ◌+◌, ◌-◌, ◌<◌, ◌==◌, ◌^◌, ◌∙◌}
 pub use Rattle.std.proofs.Common.{◌∷◌, ◌≡◌, ◌≤◌}
 pub use Rattle.std.proofs.lemmas.Iterator.Search.{all_from_yields_List}
 pub use Rattle.std.proofs.lemmas.Iterator.Splits.{YieldsList-from_str_split}
@@ -13,7 +13,7 @@ pub use Rattle.zv_command.proofs.Sending.{Completes, completes_last, sends_more}
 pub use Rattle.zv_locale.specs.Asks.{IsAnswered, IsAsk, answers, ask_of}
 pub use Rattle.zv_locale.specs.Names.{fronts, names_of, tries}
 pub use Rattle.zv_locale.specs.Texts.{left}
-pub use Rattle.zv_locale.specs.Wanted.{is_locale, is_subtag, locales, subtags}
+pub use Rattle.zv_locale.specs.Wanted.{is_cut, is_locale, is_subtag, locales, subtags}
 pub use Rattle.zv_map.specs.Maps.{look_up}
 pub use Rattle.zv_map2d.specs.Image.{by_bytes}
 

@@ -1,8 +1,8 @@
 -- Where texts are cut.
-use Rattle.zv_locale.proofs.Common.{◌≡◌, ◌∙◌, ◌==◌, ◌<◌, ◌≤◌, ◌+◌, ℕ, List, [], ◌∷◌, ◌++◌, length, get_or, take, drop, true, false, Bool, append-nil}
-use Rattle.zv_locale.proofs.Common.{append_assoc, codes, ◌||◌, length-append, None, Some, Option, refl, sym, ap, arith, lit<, Bor, ◌≢◌, MatchOption, map}
+use Rattle.zv_locale.proofs.Common.{◌≡◌, ◌∙◌, ◌==◌, ◌<◌, ◌+◌, ℕ, List, [], ◌∷◌, ◌++◌, length, get_or, take, drop, true, false, Bool, append-nil}
+use Rattle.zv_locale.proofs.Common.{append_assoc, codes, length-append, None, Some, Option, refl, sym, ap, arith, lit<, Bor, ◌≢◌, MatchOption, map}
 use Rattle.zv_locale.proofs.Common.{if◌then◌else◌, option_map_or, length-map, map-append, take-append-drop, All-from_get_or, slice_split_at, slice_split_none}
-use Rattle.zv_locale.proofs.Common.{length-slice_split, slice_split-cons_no, slice_split-cons_yes, fronts, names_of, tries, locales, subtags}
+use Rattle.zv_locale.proofs.Common.{length-slice_split, slice_split-cons_no, slice_split-cons_yes, fronts, is_cut, names_of, tries, locales, subtags}
 use Rattle.std.specs.List.{All, count_by, flat_map, onto_first}
 use Rattle.std.specs.Str.Pattern.{RFindsChar, SplitsAroundMatch}
 use Rattle.std.proofs.lemmas.Simd.{map-map}
@@ -59,10 +59,6 @@ cut_last text (Some x) is =
     ∙ ap (λ l. text ∷ names_of l) (sym is.3)
 
 -- ---- how many names are tried
-
--- where a locale or a subtag ends before another
-abbrev is_cut : ℕ → Bool
-is_cut b = b == 45 || b == 44
 
 length_step : (b : ℕ) (rest : List ℕ) (is : Bool) → (b == 45) ≡ is → length (names_of (b ∷ rest)) ≡ length (names_of rest) + (if is then 1 else 0)
 length_step b rest is e =

@@ -1,8 +1,9 @@
 -- What a line asks is no larger than the line.
-use Rattle.zv_locale.proofs.Common.{◌≡◌, ◌+◌, ◌*◌, ◌≤◌, ℕ, List, [], ◌∷◌, length, None, Some, arith, sum_by, IfSome, length-slice_split, ask_of}
-use Rattle.zv_input.proofs.Common.{Command, command_size, is_byte, words}
+use Rattle.zv_locale.proofs.Common.{◌≡◌, ◌≤◌, ℕ, List, [], ◌∷◌, length, None, Some, arith, sum_by, IfSome, length-slice_split, ask_of}
+use Rattle.zv_input.proofs.Common.{command_size, is_byte, words}
 use Rattle.zv_input.proofs.Fields.{key_is, pieces_size}
 use Rattle.zv_input.specs.Input.{one_word}
+use Rattle.zv_input.specs.declared.command.Command.{Command}
 
 -- a word before others is not the only one
 pub not_one : (word text : List ℕ) → one_word (word ∷ words text) ≡ None

@@ -1,8 +1,12 @@
 -- Wanted texts: locales in the order in which they are wanted.
-use Rattle.std.specs.Prelude.{ℕ, Bool, ◌==◌, ◌&&◌, nat_le, List, length}
+use Rattle.std.specs.Prelude.{ℕ, Bool, ◌==◌, ◌&&◌, ◌||◌, nat_le, List, length}
 use Rattle.std.specs.Char.{is_ascii_alphanumeric}
 use Rattle.std.specs.Int.{is_in_range}
 use Rattle.std.specs.List.{list_all, slice_split}
+
+-- whether a byte ends a subtag (`-`, 45) or a locale (`,`, 44) before another
+abbrev pub is_cut : ℕ → Bool
+is_cut b = b == 45 || b == 44
 
 -- the subtags of a locale, which `-` (45) parts
 abbrev pub subtags : List ℕ → List (List ℕ)

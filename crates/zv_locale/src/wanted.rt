@@ -1,9 +1,9 @@
 // Locales in the order in which they are wanted.
-ghost use Rattle.std.specs.Prelude.{◌≡◌, ◌↔◌, ◌==◌, ◌||◌, count_by, IfSome, IsSome, IsTrue, length};
+ghost use Rattle.std.specs.Prelude.{◌≡◌, ◌↔◌, count_by, IfSome, IsSome, IsTrue, length};
 ghost use Rattle.std.specs.Char.{is_ascii_alphanumeric};
 ghost use Rattle.std.specs.List.{list_all};
 ghost use Rattle.zv_locale.specs.Names.{tries};
-ghost use Rattle.zv_locale.specs.Wanted.{is_locale, is_subtag, is_wanted, locales};
+ghost use Rattle.zv_locale.specs.Wanted.{is_cut, is_locale, is_subtag, is_wanted, locales};
 
 // The most locales that a text has.
 const MOST: usize = 16;
@@ -52,7 +52,7 @@ fn is_wanted(text: &str) -> bool
 
 // How many places there are where a locale or a subtag ends before another.
 fn count_cuts(text: &str) -> usize
-    ensures { result ≡ count_by (λ b. b == 45 || b == 44) text.now }
+    ensures { result ≡ count_by is_cut text.now }
 {
     text.bytes().filter(|b| *b == b'-' || *b == b',').count()
 }
