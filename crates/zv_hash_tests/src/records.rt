@@ -44,10 +44,10 @@ fn are_answered<'a, K: ZeroMapKV<'a> + HashBytes, V: ZeroMapKV<'a>>(
         pairs.push(entry::<K, V>(*bytes)?)?;
     }
     let table = ZeroHashMap::<'a, K, V>::try_from_pairs(alloc, &pairs)?;
-    assert!(rt; *table.values().bytes() == *values);
-    for (key, value) in &pairs {
-        let found = table.get(key);
-        assert!(rt; found.is_some_and(|found| *found.as_bytes() == *value.as_bytes()));
+    assert!(rt; table.values().bytes() == values);
+    for (key, value) in entries {
+        let found = table.get(&VarRef::<'_, K>::new(key)?);
+        assert!(rt; found.is_some_and(|found| found.as_bytes() == *value));
     }
     assert!(rt; table.get(&VarRef::<'_, K>::new(missing)?).is_none());
     Ok(())

@@ -300,5 +300,11 @@ fn at_most_64_layers(rt: HostRuntime) -> Result<(), Fail> {
     let alloc = rt.alloc();
     let image = [Part::Once("image x"), Part::Once(PAIR), Part::Once("\n")];
     try_count(&rt, alloc, 64, &image, Status::Done)?;
-    try_count(&rt, alloc, 65, &[Part::Once("error line 65\n")], Status::BadLine)
+    try_count(
+        &rt,
+        alloc,
+        65,
+        &[Part::Once("error line 65\n")],
+        Status::BadLine,
+    )
 }

@@ -1,4 +1,5 @@
-use Rattle.std.proofs.Common.{⊤, ◌^◌, ◌<◌, length}
+use Rattle.std.specs.Prelude.{⊤}
+use Rattle.std.proofs.Common.{◌^◌, ◌<◌, length}
 use Rattle.std.specs.List.{All}
 use Rattle.zv_ule.specs.Views.{element_of}
 use Rattle.zv_hash_tests.proofs.records.are_answered.Given as goal
