@@ -54,6 +54,8 @@ def forms():
         (["look", "x7364", "x4b686f6a"], field(model.canonical(locales)) + "\n"),
         (["look", field(b"a key of more than twelve bytes"), "x62"], field(model.canonical(wide)) + "\n"),
         (["locale"], field(model.canonical(names)) + asks),
+        (["layers"], field(model.canonical(locales)) + "\n" + field(model.canonical(names)) + "\n" + field(model.canonical(wide)) + "\n"),
+        (["layers"], field(model.canonical(locales)) + "\nx00\n"),
         (["props"], "x\nset 65 90 1\nset 97 122 1\nat 66\nset 91 96 1\nset 70 80 2\n"),
         (["props"], "x00\nat 65\n"),
         (["make", "65"], ""),

@@ -69,7 +69,7 @@ const WIDE_PAIR: &str = "\
     05000000000000000100000062\
     05000000000000000100000001";
 
-const FORMS: [Form; 10] = [
+const FORMS: [Form; 11] = [
     Form {
         name: "an edit of 28 locales",
         words: &["edit"],
@@ -125,6 +125,15 @@ const FORMS: [Form; 10] = [
         // 130 bytes, and lines of 24 and 14.
         input: &["x", BRITISH, "\nask x64 x656e2d47422d31\nask x64 x6672\n"],
         writes: &[&["some x656e2d4742 x02\nsome x756e64 x03\n"]],
+        status: Status::Done,
+        reads: 4,
+    },
+    Form {
+        name: "no pairs laid over one",
+        words: &["layers"],
+        // 92 bytes, and a line of 66.
+        input: &["x", PAIR, "\nx", EMPTY, "\n"],
+        writes: &[&["image x", PAIR, "\n"]],
         status: Status::Done,
         reads: 4,
     },
