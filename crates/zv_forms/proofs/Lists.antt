@@ -42,3 +42,5 @@ third_wide None b c x y e p q r = cc
 third_wide (Some a) None c x y e p q r = cc
 third_wide (Some a) (Some b) None x y e p q r = r
 third_wide (Some a) (Some b) (Some c) x y e p q r = cc
+
+pub ruleset three_vectors = (three_written, second_wide, third_wide)

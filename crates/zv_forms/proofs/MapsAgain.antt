@@ -1,5 +1,6 @@
 -- Maps that are written and read again.
-use Rattle.std.proofs.Common.{◌≡◌, List, [], ◌∷◌, ◌<◌, length, map, Bool, true, false, ◌&&◌, not, is_none, Option, Some, None, Result, refl, subst}
+use Rattle.std.proofs.Common.{◌≡◌, List, [], ◌∷◌, ◌<◌, length, map, Bool, true, false, ◌==◌, ◌&&◌, not, arith, is_none, Option, Some, None, Result, refl, subst}
+use Rattle.std.proofs.lemmas.Bool.Decides.{nat_tests}
 use Rattle.std.specs.Cmp.{IsTotalOrder}
 use Rattle.std.specs.List.{AllByRecursion, flat_map}
 use Rattle.std.specs.Option.{option_map}
@@ -63,7 +64,7 @@ read_items rule order of_name of_key of_value named xs (object ms) is = absurd (
 
 module _ {order : Order} (total : IsTotalOrder order) {fault : Bytes → Option UleError} {name of_name : Bytes → Option Bytes}
     (named : (e l : Bytes) → IsBytes e → fault e ≡ None → name e ≡ Some l → of_name l ≡ Some e)
-    {vfault : Bytes → Option UleError} {alike : Bytes → Bytes → Type 0} {value : Bytes → Option Data} {read : Data → Result Bytes JsonError}
+    {vfault : Bytes → Option UleError} (alike : Bytes → Bytes → Type 0) {value : Bytes → Option Data} (read : Data → Result Bytes JsonError)
     (again : ReadsAgain vfault alike value read) where
   abbrev IsEntry : Bytes × Bytes → Type 0
   IsEntry e = IsElementOf fault e.0 × IsElementOf vfault e.1
@@ -74,26 +75,30 @@ module _ {order : Order} (total : IsTotalOrder order) {fault : Bytes → Option 
   value_again : (e : Bytes × Bytes) (d : Data) → IsEntry e → value e.1 ≡ Some d → IsAgain (alike e.1) (read d)
   value_again e d h v = again e.1 d h.1.bytes h.1.valid v
 
-  pub named_map_again : (rule : Rule) (key : Bytes → Option Data) (of_key : Data → Result Bytes JsonError) (m : Pairs) (d : Data) → IsMap order m →
-      AllByRecursion (IsElementOf fault) (keys_of m) → AllByRecursion (IsElementOf vfault) (values_of m) → map_written true name key value m ≡ Some d →
-      IsAgain (SameKeys alike m) (map_in rule order of_name of_key read true d)
-  named_map_again rule key of_key m d up ks vs is =
+  pub named_map_again : (rule : Rule) (key : Bytes → Option Data) (of_key : Data → Result Bytes JsonError) (b : Bool) (m : Pairs) (d : Data) → b ≡ true → IsMap order m →
+      AllByRecursion (IsElementOf fault) (keys_of m) → AllByRecursion (IsElementOf vfault) (values_of m) → map_written b name key value m ≡ Some d →
+      IsAgain (SameKeys alike m) (map_in rule order of_name of_key read b d)
+  named_map_again rule key of_key false m d e up ks vs is = cc
+  named_map_again rule key of_key true m d e up ks vs is =
       let o = object_back (members_written name value no_members m) d is in
       subst (λ c. IsAgain (SameKeys alike m) (map_in rule order of_name of_key read true c)) o.is
       (subst (IsAgain (SameKeys alike m)) (read_named rule order of_name of_key read o.members)
       (pairs_again total name of_name value IsEntry key_named alike read value_again (fits rule order) m o.members (in_order order m up)
       (each_entry (IsElementOf fault) (IsElementOf vfault) m ks vs) o.all))
 
-  pub other_map_again : {kalike : Bytes → Bytes → Type 0} {key : Bytes → Option Data} {of_key : Data → Result Bytes JsonError} → ReadsAgain fault kalike key of_key →
-      AlikeIsEqual kalike order → (rule : Rule) (m : Pairs) (d : Data) → IsMap order m →
-      AllByRecursion (IsElementOf fault) (keys_of m) → AllByRecursion (IsElementOf vfault) (values_of m) → map_written false name key value m ≡ Some d →
-      IsAgain (EntriesAlike kalike alike m) (map_in rule order of_name of_key read false d)
-  other_map_again kagain tied rule [] d up ks vs is =
-      let same : object no_members ≡ d = cc in subst (λ c. IsAgain (EntriesAlike _ alike []) (map_in rule order of_name _ read false c)) same tt
-  other_map_again {kalike} {key} {of_key} kagain tied rule (e ∷ m) d up ks vs is =
-      subst (IsAgain (EntriesAlike kalike alike (e ∷ m))) (read_items rule order of_name of_key read false (map (pair_written key value) (e ∷ m)) d is)
-      (array_again total key value IsEntry kalike alike tied of_name of_key read (λ f c h w. kagain f.0 c h.0.bytes h.0.valid w) value_again rule (e ∷ m) d
-      (in_order order (e ∷ m) up) (each_entry (IsElementOf fault) (IsElementOf vfault) (e ∷ m) ks vs) is)
+  pub other_map_again : (kalike : Bytes → Bytes → Type 0) {key : Bytes → Option Data} (of_key : Data → Result Bytes JsonError) → ReadsAgain fault kalike key of_key →
+      AlikeIsEqual kalike order → (rule : Rule) (b : Bool) (m : Pairs) (d : Data) → b ≡ false → IsMap order m →
+      AllByRecursion (IsElementOf fault) (keys_of m) → AllByRecursion (IsElementOf vfault) (values_of m) → map_written b name key value m ≡ Some d →
+      IsAgain (EntriesAlike kalike alike m) (map_in rule order of_name of_key read b d)
+  other_map_again kalike of_key kagain tied rule true m d e up ks vs is = cc
+  other_map_again kalike of_key kagain tied rule false [] d e up ks vs is =
+      let same : object no_members ≡ d = cc in subst (λ c. IsAgain (EntriesAlike kalike alike []) (map_in rule order of_name of_key read false c)) same tt
+  other_map_again kalike {key} of_key kagain tied rule false (f ∷ m) d e up ks vs is =
+      let some : (length (f ∷ m) == 0) ≡ false = grind (arith, nat_tests) in
+      let array : array_written (map (pair_written key value) (f ∷ m)) ≡ Some d = rw some at is in
+      subst (IsAgain (EntriesAlike kalike alike (f ∷ m))) (read_items rule order of_name of_key read false (map (pair_written key value) (f ∷ m)) d array)
+      (array_again total key value IsEntry kalike alike tied of_name of_key read (λ x c h w. kagain x.0 c h.0.bytes h.0.valid w) value_again rule (f ∷ m) d
+      (in_order order (f ∷ m) up) (each_entry (IsElementOf fault) (IsElementOf vfault) (f ∷ m) ks vs) array)
 
   -- a row of a map in two levels
   module _ {order0 : Order} (total0 : IsTotalOrder order0) {fault0 : Bytes → Option UleError} {name0 of_name0 : Bytes → Option Bytes}
@@ -109,13 +114,15 @@ module _ {order : Order} (total : IsTotalOrder order) {fault : Bytes → Option 
     rows_are [] k0s rows k1s vs = tt
     rows_are (r ∷ m) k0s rows k1s vs =
         let ks = split_all (IsElementOf fault) (keys_of r.1) (flat_map (λ s. keys_of s.1) m) k1s in
-        let xs = split_all (IsElementOf vfault) (values_of r.1) (values m) vs in
-        (record {
-          key = k0s.0;
-          some = rows.0.0;
-          ordered = in_order order r.1 rows.0.1;
-          entries = each_entry (IsElementOf fault) (IsElementOf vfault) r.1 ks.0 xs.0;
-        }, rows_are m k0s.1 rows.1 ks.1 xs.1)
+        let xs = split_all (IsElementOf vfault) (values_of r.1) (values m) vs in (
+          record {
+            key = k0s.0;
+            some = rows.0.0;
+            ordered = in_order order r.1 rows.0.1;
+            entries = each_entry (IsElementOf fault) (IsElementOf vfault) r.1 ks.0 xs.0;
+          },
+          rows_are m k0s.1 rows.1 ks.1 xs.1,
+        )
 
     pub map2d_again : (rule : RowsRule) (m : Rows) (d : Data) → IsWell order0 order m → AreElements fault0 fault m → AllByRecursion (IsElementOf vfault) (values m) →
         rows_written name0 name value m ≡ Some d → IsAgain (RowsAlike alike m) (and_then (object_in d) (rows_in rule order0 order of_name0 of_name read []))

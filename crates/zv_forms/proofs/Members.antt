@@ -50,18 +50,19 @@ in_order order (e ∷ m) up = (from_keys (λ k. order e.0 k ≡ Less) m up.0, in
 
 -- ---- entries one after another
 
-module _ {X : Type 0} where
-  pub split_all : (P : Bytes × X → Type 0) (es fs : List (Bytes × X)) → AllByRecursion P (es ++ fs) → AllByRecursion P es × AllByRecursion P fs
+module _ {A : Type 0} where
+  pub split_all : (P : A → Type 0) (es fs : List A) → AllByRecursion P (es ++ fs) → AllByRecursion P es × AllByRecursion P fs
   split_all P [] fs h = (tt, h)
   split_all P (e ∷ es) fs h = let s = split_all P es fs h.1 in ((h.0, s.0), s.1)
 
-  pub join_all : (P : Bytes × X → Type 0) (es fs : List (Bytes × X)) → AllByRecursion P es → AllByRecursion P fs → AllByRecursion P (es ++ fs)
+  pub join_all : (P : A → Type 0) (es fs : List A) → AllByRecursion P es → AllByRecursion P fs → AllByRecursion P (es ++ fs)
   join_all P [] fs h i = i
   join_all P (e ∷ es) fs h i = (h.0, join_all P es fs h.1 i)
 
-  between_all : (P : Bytes × X → Type 0) (front back : List (Bytes × X)) (e : Bytes × X) → AllByRecursion P (front ++ back) → P e → AllByRecursion P (front ++ e ∷ back)
+  pub between_all : (P : A → Type 0) (front back : List A) (e : A) → AllByRecursion P (front ++ back) → P e → AllByRecursion P (front ++ e ∷ back)
   between_all P front back e h p = let s = split_all P front back h in join_all P front (e ∷ back) s.0 (p, s.1)
 
+module _ {X : Type 0} where
   -- each of the keys is above those before
   abbrev pub AreAfter : Order → List (Bytes × X) → List (Bytes × X) → Type 0
   AreAfter order done rest = AllByRecursion (λ e. AreBelow order done e.0) rest

@@ -86,7 +86,7 @@ module _ {order : Order} (total : IsTotalOrder order) (name of_name : Bytes → 
     pair_taken z k0 new r m e d h entry absent v =
         then_again (alike e.1) (RowsAlike alike (with z k0 (insert_entry order r e.0 e.1))) (read d) _ (again e d entry v) (λ y a.
         let rows : SameKeys alike (unwrap_or (look_up order0 (with z k0 r) k0) []) (row order0 m k0) =
-            found_or_alike order0 (SameKeys alike) (with z k0 r) m k0 [] tt h in
+        found_or_alike order0 (SameKeys alike) (with z k0 r) m k0 [] tt h in
         let here : SameKeys alike r (row order0 m k0) = subst (λ s. SameKeys alike s (row order0 m k0)) (row_of_with z k0 r new) rows in
         let longer = insert_alike order alike r (row order0 m k0) e.0 e.1 y here a in
         let all = insert_alike order0 (SameKeys alike) (with z k0 r) m k0 (insert_entry order r e.0 e.1) (insert_entry order (row order0 m k0) e.0 y) h longer in
@@ -110,7 +110,7 @@ module _ {order : Order} (total : IsTotalOrder order) (name of_name : Bytes → 
         go (Some ms) i e =
             let same : object ms ≡ d = cc in
             let read_row = members_again total name of_name value IsEntry named (λ s n. RowsAlike alike (with z r.0 s) n) (λ n k1 c. and_then (read c) (λ v. put_in n r.0 k1 v))
-                (pair_taken z r.0 new) m r.1 ms h (ordered r is) (entries r is) i in
+            (pair_taken z r.0 new) m r.1 ms h (ordered r is) (entries r is) i in
             subst (λ c. IsAgain (RowsAlike alike (insert_entry order0 z r.0 r.1)) (row_taken m r.0 c)) same
             (subst (λ n. IsAgain (RowsAlike alike n) (row_in r.0 m ms)) (with_some z r.0 r.1 (some r is)) read_row)
 

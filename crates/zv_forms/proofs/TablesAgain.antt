@@ -63,7 +63,7 @@ three_items a b c d is =
     }
 
 -- the elements of a container, if it takes them
-module _ {fault : Bytes → Option UleError} {alike : Bytes → Bytes → Type 0} {written : Bytes → Option Data} {read : Data → Result Bytes JsonError}
+module _ {fault : Bytes → Option UleError} (alike : Bytes → Bytes → Type 0) {written : Bytes → Option Data} (read : Data → Result Bytes JsonError)
     (again : ReadsAgain fault alike written read) where
   pub container_again : (takes : List Bytes → ℕ → Bool) (xs : List Bytes) (d : Data) → AllByRecursion (IsElementOf fault) xs →
       array_written (map written xs) ≡ Some d → IsAgain (EachAlike alike xs) (container_in takes read d)
@@ -71,8 +71,8 @@ module _ {fault : Bytes → Option UleError} {alike : Bytes → Bytes → Type 0
       (list_again fault alike written read again xs d (elements_are fault xs h) is) (λ ys a. unless_large (EachAlike alike xs) (takes_pushes takes [] ys) ys a)
 
 module _ {A : Type 0} {is_value : A → Type 0} {written : A → Option Data} {read : Data → Result A JsonError}
-    (back : (v : A) (d : Data) → is_value v → written v ≡ Some d → read d ≡ Ok v) {kfault vfault : Bytes → Option UleError} {kalike valike : Bytes → Bytes → Type 0}
-    {key value : Bytes → Option Data} {of_key of_value : Data → Result Bytes JsonError} (kagain : ReadsAgain kfault kalike key of_key)
+    (back : (v : A) (d : Data) → is_value v → written v ≡ Some d → read d ≡ Ok v) {kfault vfault : Bytes → Option UleError} (kalike valike : Bytes → Bytes → Type 0)
+    {key value : Bytes → Option Data} (of_key of_value : Data → Result Bytes JsonError) (kagain : ReadsAgain kfault kalike key of_key)
     (vagain : ReadsAgain vfault valike value of_value) where
   counted_again : (ds : List A) (ks vs xs ys : List Bytes) → parts_fault (length ds) (length ks) (length vs) ≡ None → EachAlike kalike ks xs → EachAlike valike vs ys →
       IsAgain (TableAlike kalike valike ds ks vs) (counted ds xs ys)
@@ -86,9 +86,9 @@ module _ {A : Type 0} {is_value : A → Type 0} {written : A → Option Data} {r
       let i = three_items (array_written (map written ds)) (array_written (map key ks)) (array_written (map value vs)) d is in
       rw (i.items, list_back is_value written read back ds i.first h i.first_is)
       (then_again (EachAlike kalike ks) (TableAlike kalike valike ds ks vs) (container_in takes_key of_key i.second) _
-      (container_again kagain takes_key ks i.second hk i.second_is) (λ xs k.
+      (container_again kalike of_key kagain takes_key ks i.second hk i.second_is) (λ xs k.
       then_again (EachAlike valike vs) (TableAlike kalike valike ds ks vs) (container_in takes_value of_value i.third) _
-      (container_again vagain takes_value vs i.third hv i.third_is) (λ ys v.
+      (container_again valike of_value vagain takes_value vs i.third hv i.third_is) (λ ys v.
       counted_again ds ks vs xs ys none k v)))
 
 -- lists that are those of a table have no fault

@@ -4,13 +4,14 @@ ghost use Rattle.serde_json.specs.View.{view};
 ghost use Rattle.zv_forms.specs.Tables.{container_in, pushed, table_in, table_written};
 ghost use Rattle.zv_json.specs.Arrays.{array_written, list_in};
 ghost use Rattle.zv_json.specs.Json.{UnlessMemory, or_wide};
+ghost use Rattle.zv_fixed.specs.Views.{values_in};
 ghost use Rattle.zv_map.specs.Views.{list_of};
 
 use crate::form::{JsonForm, ToJson, parse};
 use crate::maps::refusal_of;
 use serde_json::Value;
 use std::alloc::Global;
-use zv_fixed::ZeroVec;
+use zv_fixed::{ZeroSlice, ZeroVec};
 use zv_hashmap::{HashBytes, HashMapOver};
 use zv_json::{JsonError, JsonKind, JsonValue, elements_from_json, items_in, values_to_json};
 use zv_map::{KvSlice, MutableZeroVecLike, ZvContainer};
@@ -26,6 +27,25 @@ fn container_to_json<T: JsonKind>(alloc: Global, list: KvSlice<'_, T>) -> Result
         items.push(T::element_to_json(alloc, element.as_bytes())?)?;
     }
     Ok(Value::Array(items))
+}
+
+/// The array of three vectors.
+#[tactic(auto, using(crate::proofs::Lists::three_vectors))]
+fn vectors_to_json<T: JsonValue, K: JsonKind, V: JsonKind>(
+    alloc: Global,
+    displacements: ZeroSlice<'_, T>,
+    keys: KvSlice<'_, K>,
+    values: KvSlice<'_, V>,
+) -> Result<Value, JsonError>
+    ensures { UnlessMemory view (or_wide (table_written T.value_data K.to_data V.to_data
+        (values_in displacements.entry) (list_of keys.entry) (list_of values.entry))) result }
+{
+    let vectors = vec![in alloc;
+        values_to_json(alloc, displacements)?,
+        container_to_json(alloc, keys)?,
+        container_to_json(alloc, values)?,
+    ]?;
+    Ok(Value::Array(vectors))
 }
 
 /// The container of elements, in order.
@@ -73,12 +93,7 @@ impl<'a, K: JsonKind + HashBytes, V: JsonKind, C: ZvContainer<K>, D: ZvContainer
         × (t.key_vector.owned ≡ true) × (t.value_vector.owned ≡ true)) };
 
     fn to_json(&self, alloc: Global) -> Result<Value, JsonError> {
-        let vectors = vec![in alloc;
-            values_to_json(alloc, self.displacements())?,
-            container_to_json(alloc, self.keys())?,
-            container_to_json(alloc, self.values())?,
-        ]?;
-        Ok(Value::Array(vectors))
+        vectors_to_json(alloc, self.displacements(), self.keys(), self.values())
     }
 }
 
