@@ -1,9 +1,9 @@
 // Containers that calls build, and texts that are too large for a format.
 
-use crate::forms::{is_written, refuses};
+use crate::forms::{is_text, is_written, refuses};
 use std::alloc::Global;
 use std::test::Fail;
-use zv_forms::JsonForm;
+use zv_forms::{JsonForm, ToJson};
 use zv_hashmap::ZeroHashMap;
 use zv_json::JsonError::{Shape, TooLarge};
 use zv_map1::ZeroMap;
@@ -24,10 +24,10 @@ fn a_map_in_two_levels_is_an_object_of_objects(rt: HostRuntime) -> Result<(), Fa
     let alloc = rt.alloc();
     let triples = [(1u32, 1u16, "uno"), (2, 2, "dos"), (2, 3, "tres")];
     let map = ZeroMap2d::<'_, u32, u16, StrULE>::try_from_triples(alloc, &triples)?;
-    is_written(
+    is_text(
         &rt,
         alloc,
-        &map,
+        &map.to_json(alloc)?,
         "{\"1\":{\"1\":\"uno\"},\"2\":{\"2\":\"dos\",\"3\":\"tres\"}}",
     )
 }
@@ -36,9 +36,14 @@ fn a_map_in_two_levels_is_an_object_of_objects(rt: HostRuntime) -> Result<(), Fa
 fn a_map_in_two_levels_that_is_inserted_into_is_written(rt: HostRuntime) -> Result<(), Fail> {
     let alloc = rt.alloc();
     let mut map = ZeroMap2d::<'_, u16, u16, StrULE>::new();
-    is_written(&rt, alloc, &map, "{}")?;
+    is_text(&rt, alloc, &map.to_json(alloc)?, "{}")?;
     let _ = map.insert(alloc, &1, &2, &"three")?;
-    is_written(&rt, alloc, &map, "{\"1\":{\"2\":\"three\"}}")
+    is_text(
+        &rt,
+        alloc,
+        &map.to_json(alloc)?,
+        "{\"1\":{\"2\":\"three\"}}",
+    )
 }
 
 #[test]

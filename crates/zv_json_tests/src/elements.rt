@@ -11,7 +11,7 @@ use zv_owned::VarZeroVec;
 use zv_ule::{Index16, NichedOption, SliceULE, StrULE};
 use zv_var::VarZeroSliceULE;
 
-const PAIRS: [Case; 7] = [
+const PAIRS: [Case<'_>; 7] = [
     Same("[[1,\"a\"],[1234901,\"啊\"]]"),
     Refused("[[1]]", Shape),
     Refused("[[1,\"a\",2]]", Shape),
@@ -22,35 +22,35 @@ const PAIRS: [Case; 7] = [
     Refused("[[1.5,\"ab\"]]", Wide),
 ];
 
-const SIXES: [Case; 2] = [
+const SIXES: [Case<'_>; 2] = [
     Same("[[1,2,3,4,5,true]]"),
     Refused("[[1,2,3,4,5,6]]", Shape),
 ];
 
-const OPTIONS: [Case; 4] = [
+const OPTIONS: [Case<'_>; 4] = [
     Same("[null,7,0]"),
     Same("[null]"),
     Refused("[256]", Range),
     Refused("[[]]", Shape),
 ];
 
-const NICHES: [Case; 2] = [Same("[null,7]"), Refused("[0]", Range)];
+const NICHES: [Case<'_>; 2] = [Same("[null,7]"), Refused("[0]", Range)];
 
-const ARRAYS: [Case; 4] = [
+const ARRAYS: [Case<'_>; 4] = [
     Same("[[1,2,3],[4,5,6]]"),
     Refused("[[1,2]]", Shape),
     Refused("[[1,2,3,4]]", Shape),
     Refused("[[1,2,256]]", Range),
 ];
 
-const NESTED: [Case; 4] = [
+const NESTED: [Case<'_>; 4] = [
     Same("[[\"a\",\"bc\"],[],[\"\"]]"),
     Refused("[\"a\"]", Shape),
     Refused("[[\"a\"],[7]]", Shape),
     Refused("[[[]]]", Shape),
 ];
 
-const SIZED: [Case; 8] = [
+const SIZED: [Case<'_>; 8] = [
     Same("[{\"sized\":1500,\"variable\":\"hello\"}]"),
     Becomes(
         "[{\"variable\":\"\",\"sized\":0}]",
@@ -64,7 +64,7 @@ const SIZED: [Case; 8] = [
     Refused("[[1500,\"hello\"]]", Shape),
 ];
 
-const RECORDS: [Case; 7] = [
+const RECORDS: [Case<'_>; 7] = [
     Same("[[\"a\",[98]],[\"\",[]]]"),
     Refused("[[\"a\"]]", Shape),
     Refused("[[\"a\",[98],1]]", Shape),
@@ -75,7 +75,7 @@ const RECORDS: [Case; 7] = [
     Refused("[[\"a\",[256]]]", Range),
 ];
 
-const LONG_RECORDS: [Case; 2] = [
+const LONG_RECORDS: [Case<'_>; 2] = [
     Same("[[\"a\",\"b\",\"c\",\"d\",\"e\",[1,65535]]]"),
     Refused("[[\"a\",\"b\",\"c\",\"d\",\"e\",[65536]]]", Range),
 ];
@@ -110,7 +110,7 @@ fn elements_of_any_length_are_composed(rt: HostRuntime) -> Result<(), Fail> {
     reads::<'_, VarZeroVec<'_, ZeroSliceULE<u8>, Index16>>(&rt, alloc, &ARRAYS_OF_ANY_LENGTH)
 }
 
-const ARRAYS_OF_ANY_LENGTH: [Case; 3] = [
+const ARRAYS_OF_ANY_LENGTH: [Case<'_>; 3] = [
     Same("[[1,2,3],[],[255]]"),
     Refused("[1]", Shape),
     Refused("[[256]]", Range),

@@ -1,6 +1,7 @@
 // What texts are read as, and written as again.
 ghost use Rattle.std.specs.Prelude.{IsTrue};
 
+use serde_json::Value;
 use std::alloc::Global;
 use std::process::Abort;
 use std::test::Fail;
@@ -8,13 +9,13 @@ use zv_forms::{JsonForm, ToJson};
 use zv_json::JsonError;
 
 /// A text, and what comes of it.
-pub(crate) enum Case {
+pub(crate) enum Case<'a> {
     /// It is read, and written as it stands.
-    Same(&'static str),
+    Same(&'a str),
     /// It is read, and written as another text.
-    Becomes(&'static str, &'static str),
+    Becomes(&'a str, &'a str),
     /// It is refused.
-    Refused(&'static str, JsonError),
+    Refused(&'a str, JsonError),
 }
 
 // The text is read, and written as another one.
@@ -30,6 +31,18 @@ fn becomes<'a, F: JsonForm<'a> + Drop>(
     is_written(rt, alloc, &container, wanted)
 }
 
+// A value is printed as a text.
+pub(crate) fn is_text(
+    rt: &impl Abort,
+    alloc: Global,
+    value: &Value,
+    wanted: &str,
+) -> Result<(), Fail> {
+    let printed = value.to_string(alloc)?;
+    assert!(rt; printed.as_str() == wanted, "{wanted}");
+    Ok(())
+}
+
 // A container is written as a text.
 pub(crate) fn is_written<F: ToJson>(
     rt: &impl Abort,
@@ -37,9 +50,7 @@ pub(crate) fn is_written<F: ToJson>(
     container: &F,
     wanted: &str,
 ) -> Result<(), Fail> {
-    let written = container.to_json(alloc)?.to_string(alloc)?;
-    assert!(rt; written.as_str() == wanted, "{wanted}");
-    Ok(())
+    is_text(rt, alloc, &container.to_json(alloc)?, wanted)
 }
 
 // A text is refused by an error.
@@ -59,13 +70,13 @@ pub(crate) fn refuses<'a, F: JsonForm<'a> + Drop>(
 pub(crate) fn reads<'a, F: JsonForm<'a> + Drop>(
     rt: &impl Abort,
     alloc: Global,
-    cases: &[Case],
+    cases: &[Case<'a>],
 ) -> Result<(), Fail>
     requires { IsTrue F.usable }
 {
     for case in cases {
         match case {
-            Case::Same(text) => becomes::<'_, F>(rt, alloc, *text, *text)?,
+            Case::Same(text) => becomes::<'_, F>(rt, alloc, text, text)?,
             Case::Becomes(text, wanted) => becomes::<'_, F>(rt, alloc, *text, *wanted)?,
             Case::Refused(text, error) => refuses::<'_, F>(rt, alloc, *text, *error),
         }

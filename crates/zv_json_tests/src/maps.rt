@@ -1,17 +1,18 @@
 // Maps and hash tables.
 
 use crate::forms::Case::{Becomes, Refused, Same};
-use crate::forms::{Case, reads};
+use crate::forms::{Case, is_text, reads};
 use std::test::Fail;
-use zv_forms::JsonForm;
+use zv_forms::{JsonForm, ToJson};
 use zv_hashmap::ZeroHashMap;
+use zv_json::JsonError;
 use zv_json::JsonError::{BadKey, KeyOrder, Range, Shape, Syntax, Wide};
 use zv_map1::ZeroMap;
 use zv_map2d::ZeroMap2d;
 use zv_ule::StrULE;
 
 // Maps of numbers to texts.
-const NAMES: [Case; 27] = [
+const NAMES: [Case<'_>; 27] = [
     Same("{\"1\":\"uno\",\"2\":\"dos\",\"3\":\"tres\"}"),
     Same("{}"),
     Becomes("[]", "{}"),
@@ -46,7 +47,7 @@ const NAMES: [Case; 27] = [
 ];
 
 // Maps whose keys have no names.
-const PAIRS: [Case; 5] = [
+const PAIRS: [Case<'_>; 5] = [
     Same("[[[1,1],\"uno\"],[[2,2],\"dos\"]]"),
     Becomes("[]", "{}"),
     Same("{}"),
@@ -55,13 +56,13 @@ const PAIRS: [Case; 5] = [
 ];
 
 // Maps of characters and of numbers with a sign.
-const LETTERS: [Case; 3] = [
+const LETTERS: [Case<'_>; 3] = [
     Same("{\"a\":-1,\"ω\":2}"),
     Refused("{\"ab\":1}", BadKey),
     Refused("{\"\":1}", BadKey),
 ];
 
-const SIGNED: [Case; 5] = [
+const SIGNED: [Case<'_>; 5] = [
     Same("{\"-128\":1,\"0\":2,\"127\":3}"),
     Refused("{\"128\":1}", BadKey),
     Refused("{\"-129\":1}", BadKey),
@@ -69,29 +70,36 @@ const SIGNED: [Case; 5] = [
     Refused("{\"-01\":1}", BadKey),
 ];
 
-const WIDE_KEYS: [Case; 2] = [
+const WIDE_KEYS: [Case<'_>; 2] = [
     Same("{\"340282366920938463463374607431768211455\":1}"),
     Refused("{\"340282366920938463463374607431768211456\":1}", BadKey),
 ];
 
-// Maps in two levels.
-const ROWS: [Case; 9] = [
-    Same("{\"1\":{\"1\":\"uno\"},\"2\":{\"2\":\"dos\",\"3\":\"tres\"}}"),
-    Same("{}"),
-    Becomes("{\"1\":{}}", "{}"),
-    Becomes(
+// Maps in two levels, and what they are written as.
+const ROWS: [(&str, &str); 4] = [
+    (
+        "{\"1\":{\"1\":\"uno\"},\"2\":{\"2\":\"dos\",\"3\":\"tres\"}}",
+        "{\"1\":{\"1\":\"uno\"},\"2\":{\"2\":\"dos\",\"3\":\"tres\"}}",
+    ),
+    ("{}", "{}"),
+    ("{\"1\":{}}", "{}"),
+    (
         "{\"1\":{},\"2\":{\"2\":\"dos\"}}",
         "{\"2\":{\"2\":\"dos\"}}",
     ),
-    Refused("{\"1\":7}", Shape),
-    Refused("{\"01\":7}", BadKey),
-    Refused("{\"1\":{\"65536\":\"uno\"}}", BadKey),
-    Refused("{\"1\":{\"1\":7}}", Shape),
-    Refused("[]", Shape),
+];
+
+// Texts that are none.
+const NO_ROWS: [(&str, JsonError); 5] = [
+    ("{\"1\":7}", Shape),
+    ("{\"01\":7}", BadKey),
+    ("{\"1\":{\"65536\":\"uno\"}}", BadKey),
+    ("{\"1\":{\"1\":7}}", Shape),
+    ("[]", Shape),
 ];
 
 // Hash tables.
-const TABLES: [Case; 8] = [
+const TABLES: [Case<'_>; 8] = [
     Same("[[[0,0],[0,1],[0,1]],[1,2,0],[\"b\",\"c\",\"a\"]]"),
     Same("[[],[],[]]"),
     Refused("[[\"a\"],[[\"b\",1]]]", Shape),
@@ -115,7 +123,21 @@ fn maps_are_objects_or_arrays_of_pairs(rt: HostRuntime) -> Result<(), Fail> {
 
 #[test]
 fn maps_in_two_levels_are_objects_of_objects(rt: HostRuntime) -> Result<(), Fail> {
-    reads::<'_, ZeroMap2d<'_, u32, u16, StrULE>>(&rt, rt.alloc(), &ROWS)
+    let alloc = rt.alloc();
+    for (text, wanted) in ROWS {
+        let map = ZeroMap2d::<'_, u32, u16, StrULE>::from_json_text(alloc, text)?;
+        is_text(&rt, alloc, &map.to_json(alloc)?, wanted)?;
+    }
+    Ok(())
+}
+
+#[test]
+fn other_texts_are_no_maps_in_two_levels(rt: HostRuntime) {
+    let alloc = rt.alloc();
+    for (text, error) in NO_ROWS {
+        let refusal = ZeroMap2d::<'_, u32, u16, StrULE>::from_json_text(alloc, text).err();
+        assert!(&rt; refusal == Some(error), "{text}");
+    }
 }
 
 #[test]

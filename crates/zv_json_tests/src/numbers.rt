@@ -9,7 +9,7 @@ use zv_forms::ToJson;
 use zv_json::JsonError::{Range, Shape, Wide};
 use zv_json::{JsonError, JsonKind};
 
-const U8: [Case; 9] = [
+const U8: [Case<'_>; 9] = [
     Same("[0,255]"),
     Same("[]"),
     Refused("[256]", Range),
@@ -21,21 +21,21 @@ const U8: [Case; 9] = [
     Refused("[true]", Shape),
 ];
 
-const I8: [Case; 3] = [
+const I8: [Case<'_>; 3] = [
     Same("[-128,127]"),
     Refused("[128]", Range),
     Refused("[-129]", Range),
 ];
 
-const U16: [Case; 2] = [Same("[0,65535]"), Refused("[65536]", Range)];
+const U16: [Case<'_>; 2] = [Same("[0,65535]"), Refused("[65536]", Range)];
 
-const I16: [Case; 3] = [
+const I16: [Case<'_>; 3] = [
     Same("[-32768,32767]"),
     Refused("[32768]", Range),
     Refused("[-32769]", Range),
 ];
 
-const U32: [Case; 5] = [
+const U32: [Case<'_>; 5] = [
     Same("[0,4294967295]"),
     Refused("[4294967296]", Range),
     Refused("[1.5]", Wide),
@@ -43,45 +43,45 @@ const U32: [Case; 5] = [
     Refused("[18446744073709551616]", Wide),
 ];
 
-const I32: [Case; 3] = [
+const I32: [Case<'_>; 3] = [
     Same("[-2147483648,2147483647]"),
     Refused("[2147483648]", Range),
     Refused("[-2147483649]", Range),
 ];
 
-const U64: [Case; 3] = [
+const U64: [Case<'_>; 3] = [
     Same("[0,18446744073709551615]"),
     Refused("[18446744073709551616]", Wide),
     Refused("[-1]", Range),
 ];
 
-const I64: [Case; 4] = [
+const I64: [Case<'_>; 4] = [
     Same("[-9223372036854775808,9223372036854775807]"),
     Refused("[9223372036854775808]", Range),
     Refused("[18446744073709551616]", Wide),
     Refused("[-9223372036854775809]", Wide),
 ];
 
-const U128: [Case; 4] = [
+const U128: [Case<'_>; 4] = [
     Same("[0,18446744073709551615]"),
     Refused("[18446744073709551616]", Wide),
     Refused("[-1]", Range),
     Refused("[-9223372036854775809]", Wide),
 ];
 
-const I128: [Case; 3] = [
+const I128: [Case<'_>; 3] = [
     Same("[-9223372036854775808,18446744073709551615]"),
     Refused("[18446744073709551616]", Wide),
     Refused("[-9223372036854775809]", Wide),
 ];
 
-const NON_ZERO_U8: [Case; 3] = [
+const NON_ZERO_U8: [Case<'_>; 3] = [
     Same("[1,255]"),
     Refused("[0]", Range),
     Refused("[256]", Range),
 ];
 
-const NON_ZERO_I8: [Case; 3] = [
+const NON_ZERO_I8: [Case<'_>; 3] = [
     Same("[-128,-1,1,127]"),
     Refused("[0]", Range),
     Refused("[128]", Range),

@@ -12,7 +12,7 @@ use zv_json::JsonError::{Range, Shape, Syntax};
 use zv_owned::VarZeroVec;
 use zv_ule::{Index8, Index16, Index32, StrULE};
 
-const CHARS: [Case; 11] = [
+const CHARS: [Case<'_>; 11] = [
     Same("[\"a\",\"ω\",\"文\",\"𑄃\"]"),
     Becomes("[\"\\udbff\\udfff\"]", "[\"\u{10ffff}\"]"),
     // no two escapes stand for a character past that
@@ -27,7 +27,7 @@ const CHARS: [Case; 11] = [
     Refused("[null]", Shape),
 ];
 
-const TEXTS: [Case; 6] = [
+const TEXTS: [Case<'_>; 6] = [
     Same("[\"\",\"a\",\"bc\"]"),
     Same("[]"),
     Refused("[\"a\",7]", Shape),
@@ -36,7 +36,7 @@ const TEXTS: [Case; 6] = [
     Refused("[\"a\"] x", Syntax),
 ];
 
-const BYTES: [Case; 6] = [
+const BYTES: [Case<'_>; 6] = [
     Refused("\"abc\"", Shape),
     Refused("{}", Shape),
     Refused("7", Shape),
