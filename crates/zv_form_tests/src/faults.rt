@@ -1,14 +1,16 @@
 // Bytes that are no framed form: each cause, and the first of two.
 ghost use Rattle.std.specs.Prelude.{◌≡◌, IsTrue};
 
-use crate::forms::{MAP, TABLE};
+use crate::forms::{MAP, MAP2D, TABLE};
 use std::alloc::Global;
+use std::num::NonZeroU8;
 use std::process::Abort;
 use std::test::Fail;
 use zv_fixed::ZeroVec;
 use zv_framed::{FormError, Framed};
 use zv_hashmap::ZeroHashMap;
 use zv_map1::ZeroMap;
+use zv_map2d::ZeroMap2d;
 use zv_owned::VarZeroVec;
 use zv_ule::{Index16, StrULE, TyName, UleError};
 
@@ -29,6 +31,11 @@ const SHORT_NUMBER: FormError = FormError::Part(UleError::InvalidLength {
 const SHORT_PAIR: FormError = FormError::Part(UleError::InvalidLength {
     ty: TyName::Tuple2,
     len: 7,
+});
+
+// The error of a part with a key that is 0 and may not be.
+const ZERO_KEY: FormError = FormError::Part(UleError::ParseError {
+    ty: TyName::NonZeroU8,
 });
 
 // The error of a part that is no list of texts.
@@ -118,6 +125,116 @@ fn of_maps(rt: HostRuntime) {
     are_refused::<ZeroMap<'_, u32, StrULE>>(&rt, MAPS);
 }
 
+// Maps in two levels whose keys are bytes that aren't 0.
+const MAPS2D: &[Case<'_>] = &[
+    // a joiner that is no numbers; that, and a bad first key; that, and a bad second key
+    (
+        b"\x01\0\0\0\0\0\0\0\x01\x03\0\0\0\0\0\0\0\x01\0\0\
+        \x01\0\0\0\0\0\0\0\x01\x03\0\0\0\0\0\0\0\x01\0a",
+        SHORT_NUMBER,
+    ),
+    (
+        b"\x01\0\0\0\0\0\0\0\0\x03\0\0\0\0\0\0\0\x01\0\0\
+        \x01\0\0\0\0\0\0\0\x01\x03\0\0\0\0\0\0\0\x01\0a",
+        ZERO_KEY,
+    ),
+    (
+        b"\x01\0\0\0\0\0\0\0\x01\x03\0\0\0\0\0\0\0\x01\0\0\
+        \x01\0\0\0\0\0\0\0\0\x03\0\0\0\0\0\0\0\x01\0a",
+        SHORT_NUMBER,
+    ),
+    // a second key that is none; a value that is none; both
+    (
+        b"\x01\0\0\0\0\0\0\0\x01\x04\0\0\0\0\0\0\0\x01\0\0\0\
+        \x01\0\0\0\0\0\0\0\0\x03\0\0\0\0\0\0\0\x01\0a",
+        ZERO_KEY,
+    ),
+    (
+        b"\x01\0\0\0\0\0\0\0\x01\x04\0\0\0\0\0\0\0\x01\0\0\0\
+        \x01\0\0\0\0\0\0\0\x01\x03\0\0\0\0\0\0\0\x01\0\xff",
+        NO_TEXTS,
+    ),
+    (
+        b"\x01\0\0\0\0\0\0\0\x01\x04\0\0\0\0\0\0\0\x01\0\0\0\
+        \x01\0\0\0\0\0\0\0\0\x03\0\0\0\0\0\0\0\x01\0\xff",
+        ZERO_KEY,
+    ),
+    // a first key without an end, and a second key that is none
+    (
+        b"\x02\0\0\0\0\0\0\0\x01\x02\x04\0\0\0\0\0\0\0\x01\0\0\0\
+        \x01\0\0\0\0\0\0\0\0\x03\0\0\0\0\0\0\0\x01\0a",
+        ZERO_KEY,
+    ),
+    // a first key without an end, which is above the pairs, or 0; a second key without a value
+    (
+        b"\x02\0\0\0\0\0\0\0\x01\x02\x04\0\0\0\0\0\0\0\x02\0\0\0\
+        \x01\0\0\0\0\0\0\0\x01\x03\0\0\0\0\0\0\0\x01\0a",
+        FormError::Count,
+    ),
+    (
+        b"\x02\0\0\0\0\0\0\0\x01\x02\x04\0\0\0\0\0\0\0\0\0\0\0\
+        \x01\0\0\0\0\0\0\0\x01\x03\0\0\0\0\0\0\0\x01\0a",
+        FormError::Count,
+    ),
+    (
+        b"\x01\0\0\0\0\0\0\0\x01\x04\0\0\0\0\0\0\0\x01\0\0\0\
+        \x01\0\0\0\0\0\0\0\x01\0\0\0\0\0\0\0\0",
+        FormError::Count,
+    ),
+    // ends that stay; an end of 0, which is not above the pairs; ends that fall to another than the
+    // pairs
+    (
+        b"\x02\0\0\0\0\0\0\0\x01\x02\x08\0\0\0\0\0\0\0\x01\0\0\0\x01\0\0\0\
+        \x01\0\0\0\0\0\0\0\x01\x03\0\0\0\0\0\0\0\x01\0a",
+        FormError::JoinerOrder,
+    ),
+    (
+        b"\x01\0\0\0\0\0\0\0\x01\x04\0\0\0\0\0\0\0\0\0\0\0\
+        \x01\0\0\0\0\0\0\0\x01\x03\0\0\0\0\0\0\0\x01\0a",
+        FormError::JoinerOrder,
+    ),
+    (
+        b"\x02\0\0\0\0\0\0\0\x01\x02\x08\0\0\0\0\0\0\0\x03\0\0\0\x02\0\0\0\
+        \x01\0\0\0\0\0\0\0\x01\x03\0\0\0\0\0\0\0\x01\0a",
+        FormError::JoinerOrder,
+    ),
+    // a pair and no end; an end above the pairs; that, and first keys that fall
+    (
+        b"\0\0\0\0\0\0\0\0\0\0\0\0\0\0\0\0\
+        \x01\0\0\0\0\0\0\0\x01\x03\0\0\0\0\0\0\0\x01\0a",
+        FormError::JoinerEnd,
+    ),
+    (
+        b"\x01\0\0\0\0\0\0\0\x01\x04\0\0\0\0\0\0\0\x02\0\0\0\
+        \x01\0\0\0\0\0\0\0\x01\x03\0\0\0\0\0\0\0\x01\0a",
+        FormError::JoinerEnd,
+    ),
+    (
+        b"\x02\0\0\0\0\0\0\0\x02\x01\x08\0\0\0\0\0\0\0\x01\0\0\0\x02\0\0\0\
+        \x01\0\0\0\0\0\0\0\x01\x03\0\0\0\0\0\0\0\x01\0a",
+        FormError::JoinerEnd,
+    ),
+    // first keys that fall; second keys of a row that do
+    (
+        b"\x02\0\0\0\0\0\0\0\x02\x01\x08\0\0\0\0\0\0\0\x01\0\0\0\x02\0\0\0\
+        \x02\0\0\0\0\0\0\0\x01\x02\x06\0\0\0\0\0\0\0\x02\0\x01\0ab",
+        FormError::KeyOrder,
+    ),
+    (
+        b"\x01\0\0\0\0\0\0\0\x01\x04\0\0\0\0\0\0\0\x02\0\0\0\
+        \x02\0\0\0\0\0\0\0\x02\x01\x06\0\0\0\0\0\0\0\x02\0\x01\0ab",
+        FormError::KeyOrder,
+    ),
+];
+
+#[test]
+fn of_maps_in_two_levels(rt: HostRuntime) {
+    for (bytes, error) in MAPS2D {
+        let refusal = ZeroMap2d::<'_, NonZeroU8, NonZeroU8, StrULE>::parse_framed(bytes).err();
+        assert!(&rt; refusal == Some(*error), "{error}");
+    }
+}
+
 const TABLES: &[Case<'_>] = &[
     // displacements that are none; that, and keys that are none; keys that are none, and a value
     // without a displacement
@@ -166,6 +283,14 @@ fn longer(alloc: Global, bytes: &[u8]) -> Result<Vec<u8>, Fail> {
 #[test]
 fn bytes_behind_a_map(rt: HostRuntime) -> Result<(), Fail> {
     is_whole::<ZeroMap<'_, u32, StrULE>>(&rt, &longer(rt.alloc(), MAP)?);
+    Ok(())
+}
+
+#[test]
+fn bytes_behind_a_map_in_two_levels(rt: HostRuntime) -> Result<(), Fail> {
+    let longer = longer(rt.alloc(), MAP2D)?;
+    let refusal = ZeroMap2d::<'_, u32, u16, StrULE>::parse_framed(&longer).err();
+    assert!(&rt; refusal == Some(FormError::Frame));
     Ok(())
 }
 

@@ -8,6 +8,7 @@ use zv_fixed::ZeroVec;
 use zv_framed::{FormError, Framed};
 use zv_hashmap::ZeroHashMap;
 use zv_map1::ZeroMap;
+use zv_map2d::ZeroMap2d;
 use zv_owned::VarZeroVec;
 use zv_ule::{Index8, Index16, Index32, StrULE};
 
@@ -110,6 +111,20 @@ pub const TABLE: &[u8] = b"\
 fn maps(rt: HostRuntime) -> Result<(), Fail> {
     is_form::<ZeroMap<'_, u32, StrULE>>(&rt, rt.alloc(), MAP)?;
     is_form::<ZeroMap<'_, u32, StrULE>>(&rt, rt.alloc(), &[0; 16])
+}
+
+// A map in two levels that is read where it stands is written as it was, and no front of it is one.
+#[test]
+fn maps_in_two_levels(rt: HostRuntime) -> Result<(), Fail> {
+    for bytes in [MAP2D, &[0; 32]] {
+        let map = ZeroMap2d::<'_, u32, u16, StrULE>::parse_framed(bytes)?;
+        assert!(&rt; map.to_framed_bytes(rt.alloc())?.as_slice() == bytes);
+        for end in 0..bytes.len() {
+            let refusal = ZeroMap2d::<'_, u32, u16, StrULE>::parse_framed(&bytes[..end]).err();
+            assert!(&rt; refusal == Some(FormError::Frame));
+        }
+    }
+    Ok(())
 }
 
 #[test]

@@ -7,4 +7,5 @@ pub mod Nested
 pub mod Numbers
 pub mod Options
 pub mod Records
+pub mod RecordsAgain
 pub mod Texts

@@ -1,17 +1,21 @@
 // Kinds whose elements are read as they were written.
-ghost use Rattle.std.specs.Prelude.{◌≡◌, List, ℕ, Some, None, IsTrue};
+ghost use Rattle.std.specs.Prelude.{◌≡◌, List, [], ℕ, ◌+◌, Some, None, IsTrue};
 ghost use Rattle.std.proofs.Common.{sym};
 ghost use Rattle.zv_json.specs.Again.{AlikeBehind, EachAlike, ReadsAgain, bytes_again};
 ghost use Rattle.zv_json.specs.Again.{nested_again, second_usable, text_again, tuple_again};
 ghost use Rattle.zv_json.specs.Again.{value_again, value_named, values_again};
 ghost use Rattle.zv_json.specs.Back.{nothing_named};
+ghost use Rattle.zv_json.specs.RecordsAgain.{FieldsAgain, FirstAlike, field_again, first_usable};
+ghost use Rattle.zv_json.specs.RecordsAgain.{no_fields_again, record_again};
+ghost use Rattle.zv_multi.specs.Records.{field_at};
 ghost use Rattle.zv_ule.specs.Bytes.{IsBytes};
-ghost use Rattle.zv_var.specs.Format.{elements};
+ghost use Rattle.zv_var.specs.Format.{elements, elements_after};
 
 use crate::kind::JsonKind;
+use crate::records::JsonFields;
 use crate::value::JsonValue;
 use zv_fixed::ZeroSliceULE;
-use zv_multi::VarTupleULE;
+use zv_multi::{End, Field, RecordULE, VarTupleULE};
 use zv_ule::{SliceULE, StrULE, VarULE, VarZeroVecFormat, ZvKind};
 use zv_var::VarZeroSliceULE;
 
@@ -77,6 +81,40 @@ impl<A: JsonValue, V: JsonAgain + VarULE> JsonAgain for VarTupleULE<A, V> {
     ghost again = { λ usable. tuple_again A.kind A.ULE.spelling A.twin A.value_data A.value_in
         A.back V.fault V.Alike V.to_data V.of_data
         (V.again (second_usable A.usable V.usable usable)) };
+
+    ghost named_again = { λ e name _ _. nothing_named e name };
+}
+
+/// The kinds of fields, one after another, each of which is read as it was written.
+pub trait JsonFieldsAgain: JsonFields {
+    /// Holds of fields, from a place on, and others that are alike.
+    ghost AlikeFrom: { ℕ → List (List ℕ) → List (List ℕ) → Type 0 };
+
+    /// What fields are written as is read as fields alike, or one is too large for a format.
+    ghost fields_again: { IsTrue Self.usable →
+        FieldsAgain Self.faults AlikeFrom Self.data_from Self.read };
+}
+
+impl JsonFieldsAgain for End {
+    ghost AlikeFrom = { λ _ _ ys. ys ≡ [] };
+
+    ghost fields_again = { λ _. no_fields_again };
+}
+
+impl<A: JsonAgain, R: JsonFieldsAgain> JsonFieldsAgain for Field<A, R> {
+    ghost AlikeFrom = { λ i xs. FirstAlike (A.Alike (field_at xs i)) (R.AlikeFrom (i + 1) xs) };
+
+    ghost fields_again = { λ usable. field_again A.fault A.Alike A.to_data A.of_data
+        (A.again (first_usable A.usable R.usable usable)) R.faults R.AlikeFrom R.data_from R.read
+        (R.fields_again (second_usable A.usable R.usable usable)) };
+}
+
+impl<const LEN: usize, K: JsonFieldsAgain, F: VarZeroVecFormat> JsonAgain for RecordULE<LEN, K, F> {
+    ghost Alike = { λ e x. K.AlikeFrom 0 (elements_after F.W LEN e) (elements_after F.W LEN x) };
+
+    ghost again = { λ usable. record_again F.W LEN K.faults K.AlikeFrom K.data_from K.read
+        F.field_small (second_usable K.usable _ usable)
+        (K.fields_again (first_usable K.usable _ usable)) };
 
     ghost named_again = { λ e name _ _. nothing_named e name };
 }

@@ -23,7 +23,7 @@ mod tuples;
 mod value;
 mod var_tuples;
 
-pub use again::JsonAgain;
+pub use again::{JsonAgain, JsonFieldsAgain};
 pub use arrays::items_in;
 pub use error::JsonError;
 pub use kind::{JsonKey, JsonKind};

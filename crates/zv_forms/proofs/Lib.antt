@@ -1,0 +1,9 @@
+pub mod Alike
+pub mod Arrays
+pub mod Lists
+pub mod MapsAgain
+pub mod Members
+pub mod Objects
+pub mod Rearranged
+pub mod Refused
+pub mod TablesAgain

@@ -1,0 +1,85 @@
+// What texts are read as, and written as again.
+ghost use Rattle.std.specs.Prelude.{IsTrue};
+
+use serde_json::Value;
+use std::alloc::Global;
+use std::process::Abort;
+use std::test::Fail;
+use zv_forms::{JsonForm, ToJson};
+use zv_json::JsonError;
+
+/// A text, and what comes of it.
+pub(crate) enum Case<'a> {
+    /// It is read, and written as it stands.
+    Same(&'a str),
+    /// It is read, and written as another text.
+    Becomes(&'a str, &'a str),
+    /// It is refused.
+    Refused(&'a str, JsonError),
+}
+
+// The text is read, and written as another one.
+fn becomes<'a, F: JsonForm<'a> + Drop>(
+    rt: &impl Abort,
+    alloc: Global,
+    text: &str,
+    wanted: &str,
+) -> Result<(), Fail>
+    requires { IsTrue F.usable }
+{
+    let container = F::from_json_text(alloc, text)?;
+    is_written(rt, alloc, &container, wanted)
+}
+
+// A value is printed as a text.
+pub(crate) fn is_text(
+    rt: &impl Abort,
+    alloc: Global,
+    value: &Value,
+    wanted: &str,
+) -> Result<(), Fail> {
+    let printed = value.to_string(alloc)?;
+    assert!(rt; printed.as_str() == wanted, "{wanted}");
+    Ok(())
+}
+
+// A container is written as a text.
+pub(crate) fn is_written<F: ToJson>(
+    rt: &impl Abort,
+    alloc: Global,
+    container: &F,
+    wanted: &str,
+) -> Result<(), Fail> {
+    is_text(rt, alloc, &container.to_json(alloc)?, wanted)
+}
+
+// A text is refused by an error.
+pub(crate) fn refuses<'a, F: JsonForm<'a> + Drop>(
+    rt: &impl Abort,
+    alloc: Global,
+    text: &str,
+    error: JsonError,
+)
+    requires { IsTrue F.usable }
+{
+    let refusal = F::from_json_text(alloc, text).err();
+    assert!(rt; refusal == Some(error), "{text}");
+}
+
+// What comes of each text is so.
+pub(crate) fn reads<'a, F: JsonForm<'a> + Drop>(
+    rt: &impl Abort,
+    alloc: Global,
+    cases: &[Case<'a>],
+) -> Result<(), Fail>
+    requires { IsTrue F.usable }
+{
+    for case in cases {
+        match case {
+            Case::Same(text) => becomes::<'_, F>(rt, alloc, text, text)?,
+            Case::Becomes(text, wanted) => becomes::<'_, F>(rt, alloc, *text, *wanted)?,
+            Case::Refused(text, error) => refuses::<'_, F>(rt, alloc, *text, *error),
+        }
+    }
+    Ok(())
+}
