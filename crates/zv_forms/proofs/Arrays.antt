@@ -1,22 +1,22 @@
 -- Arrays of pairs that are written and read again.
-use Rattle.std.proofs.Common.{◌≡◌, ℕ, zero, suc, ◌-◌, List, [], ◌∷◌, ◌++◌, length, map, Bool, true, false, Option, Some, None, Result, Ok, Err, refl, sym, ap, ◌∙◌}
-use Rattle.std.proofs.Common.{subst, append_assoc, append-nil, if◌then◌else◌}
+use Rattle.std.proofs.Common.{◌≡◌, ℕ, zero, suc, ◌-◌, List, [], ◌∷◌, ◌++◌, length, map, true, Option, Some}
+use Rattle.std.proofs.Common.{Result, Ok, refl, sym, ap, ◌∙◌}
+use Rattle.std.proofs.Common.{subst, append_assoc, append-nil}
 use Rattle.std.specs.Cmp.{IsTotalOrder, alike_right}
 use Rattle.std.specs.List.{AllByRecursion, slice_get}
 use Rattle.std.specs.Option.{option_map_or}
 use Rattle.std.specs.Ordering.{is_lt}
-use Rattle.std.specs.declared.cmp.Ordering.TheVariants.{Less, Equal}
+use Rattle.std.specs.declared.cmp.Ordering.TheVariants.{Equal}
 use Rattle.serde_json.specs.Data.{Data}
 use Rattle.zv_json.specs.Again.{IsAgain, then_again}
 use Rattle.zv_json.specs.Arrays.{all_written, array_written}
 use Rattle.zv_json.specs.Back.{array_items, split}
 use Rattle.zv_json.specs.Json.{and_then, items_in}
 use Rattle.zv_json.specs.declared.error.JsonError.{JsonError}
-use Rattle.zv_map1.specs.Appends.{is_above}
 use Rattle.zv_map1.specs.Fits.{Rule, pair_fits}
 use Rattle.zv_map1.specs.Views.{Bytes, Order, Pairs, keys_of}
 use Rattle.zv_forms.specs.Again.{EntriesAlike}
-use Rattle.zv_forms.specs.Maps.{inserted, pair_written, pairs_in, put_last}
+use Rattle.zv_forms.specs.Maps.{pair_written, pairs_in, put_last}
 use Rattle.zv_forms.proofs.Members.{AreAfter, AreInOrder, after_more, after_none}
 use Rattle.zv_forms.proofs.Objects.{unless_large}
 use Rattle.zv_forms.proofs.Rearranged.{AreBelow}

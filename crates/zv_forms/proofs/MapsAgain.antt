@@ -52,8 +52,8 @@ no_object None ms e = cc
 no_object (Some ds) ms e = cc
 
 -- an array that was written is read as a map by its items
-read_items : (rule : Rule) (order : Order) (of_name : Bytes → Option Bytes) (of_key of_value : Data → Result Bytes JsonError) (named : Bool) (xs : List (Option Data))
-    (d : Data) → array_written xs ≡ Some d →
+read_items : (rule : Rule) (order : Order) (of_name : Bytes → Option Bytes) (of_key of_value : Data → Result Bytes JsonError) (named : Bool)
+    (xs : List (Option Data)) (d : Data) → array_written xs ≡ Some d →
     and_then (items_in d) (pairs_in rule order of_name of_key of_value []) ≡ map_in rule order of_name of_key of_value named d
 read_items rule order of_name of_key of_value named xs null is = refl
 read_items rule order of_name of_key of_value named xs (boolean b) is = refl
@@ -75,9 +75,9 @@ module _ {order : Order} (total : IsTotalOrder order) {fault : Bytes → Option 
   value_again : (e : Bytes × Bytes) (d : Data) → IsEntry e → value e.1 ≡ Some d → IsAgain (alike e.1) (read d)
   value_again e d h v = again e.1 d h.1.bytes h.1.valid v
 
-  pub named_map_again : (rule : Rule) (key : Bytes → Option Data) (of_key : Data → Result Bytes JsonError) (b : Bool) (m : Pairs) (d : Data) → b ≡ true → IsMap order m →
-      AllByRecursion (IsElementOf fault) (keys_of m) → AllByRecursion (IsElementOf vfault) (values_of m) → map_written b name key value m ≡ Some d →
-      IsAgain (SameKeys alike m) (map_in rule order of_name of_key read b d)
+  pub named_map_again : (rule : Rule) (key : Bytes → Option Data) (of_key : Data → Result Bytes JsonError) (b : Bool) (m : Pairs) (d : Data) → b ≡ true →
+      IsMap order m → AllByRecursion (IsElementOf fault) (keys_of m) → AllByRecursion (IsElementOf vfault) (values_of m) →
+      map_written b name key value m ≡ Some d → IsAgain (SameKeys alike m) (map_in rule order of_name of_key read b d)
   named_map_again rule key of_key false m d e up ks vs is = cc
   named_map_again rule key of_key true m d e up ks vs is =
       let o = object_back (members_written name value no_members m) d is in
@@ -86,8 +86,8 @@ module _ {order : Order} (total : IsTotalOrder order) {fault : Bytes → Option 
       (pairs_again total name of_name value IsEntry key_named alike read value_again (fits rule order) m o.members (in_order order m up)
       (each_entry (IsElementOf fault) (IsElementOf vfault) m ks vs) o.all))
 
-  pub other_map_again : (kalike : Bytes → Bytes → Type 0) {key : Bytes → Option Data} (of_key : Data → Result Bytes JsonError) → ReadsAgain fault kalike key of_key →
-      AlikeIsEqual kalike order → (rule : Rule) (b : Bool) (m : Pairs) (d : Data) → b ≡ false → IsMap order m →
+  pub other_map_again : (kalike : Bytes → Bytes → Type 0) {key : Bytes → Option Data} (of_key : Data → Result Bytes JsonError) →
+      ReadsAgain fault kalike key of_key → AlikeIsEqual kalike order → (rule : Rule) (b : Bool) (m : Pairs) (d : Data) → b ≡ false → IsMap order m →
       AllByRecursion (IsElementOf fault) (keys_of m) → AllByRecursion (IsElementOf vfault) (values_of m) → map_written b name key value m ≡ Some d →
       IsAgain (EntriesAlike kalike alike m) (map_in rule order of_name of_key read b d)
   other_map_again kalike of_key kagain tied rule true m d e up ks vs is = cc
@@ -124,12 +124,13 @@ module _ {order : Order} (total : IsTotalOrder order) {fault : Bytes → Option 
           rows_are m k0s.1 rows.1 ks.1 xs.1,
         )
 
-    pub map2d_again : (rule : RowsRule) (m : Rows) (d : Data) → IsWell order0 order m → AreElements fault0 fault m → AllByRecursion (IsElementOf vfault) (values m) →
-        rows_written name0 name value m ≡ Some d → IsAgain (RowsAlike alike m) (and_then (object_in d) (rows_in rule order0 order of_name0 of_name read []))
+    pub map2d_again : (rule : RowsRule) (m : Rows) (d : Data) → IsWell order0 order m → AreElements fault0 fault m →
+        AllByRecursion (IsElementOf vfault) (values m) → rows_written name0 name value m ≡ Some d →
+        IsAgain (RowsAlike alike m) (and_then (object_in d) (rows_in rule order0 order of_name0 of_name read []))
     map2d_again rule m d well keys vs is =
         let o = object_back (members_written name0 (row_written name value) no_members m) d is in
         subst (λ c. IsAgain (RowsAlike alike m) (and_then (object_in c) (rows_in rule order0 order of_name0 of_name read []))) o.is
-        (rows_again total name of_name value IsEntry key_named alike read value_again total0 name0 of_name0 IsRowOf (λ r l h n. named0 r.0 l h.key.bytes h.key.valid n)
-        (λ r h. h.some) (λ r h. h.ordered) (λ r h. h.entries)
+        (rows_again total name of_name value IsEntry key_named alike read value_again total0 name0 of_name0 IsRowOf
+        (λ r l h n. named0 r.0 l h.key.bytes h.key.valid n) (λ r h. h.some) (λ r h. h.ordered) (λ r h. h.entries)
         (λ n k0 k1 v. fits2d rule order0 order n k0 k1 v && not (is_none (find order0 order n k0 k1) && is_full n)) m o.members (in_order order0 m well.0)
         (rows_are m keys.firsts well.1 keys.seconds vs) o.all)

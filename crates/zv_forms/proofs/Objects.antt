@@ -1,5 +1,5 @@
 -- Objects of pairs, and objects of rows, that are written and read again.
-use Rattle.std.proofs.Common.{◌≡◌, List, [], ◌∷◌, Bool, true, false, Option, Some, None, Result, Ok, Err, refl, sym, ◌∙◌, subst, ◌<◌, length, unwrap_or}
+use Rattle.std.proofs.Common.{◌≡◌, [], ◌∷◌, Bool, true, false, Option, Some, None, Result, Ok, Err, refl, sym, ◌∙◌, subst, ◌<◌, length, unwrap_or}
 use Rattle.std.proofs.Common.{if◌then◌else◌, arith}
 use Rattle.std.proofs.lemmas.Cmp.{tied_itself}
 use Rattle.std.specs.Cmp.{IsTotalOrder}
@@ -35,11 +35,13 @@ module _ {order : Order} (total : IsTotalOrder order) (name of_name : Bytes → 
     (again : (e : Bytes × Bytes) (d : Data) → IsEntry e → value e.1 ≡ Some d → IsAgain (alike e.1) (read d)) where
   pub pairs_again : (fits : Pairs → Bytes → Bytes → Bool) (m : Pairs) (ms : Members) → AreInOrder order m → AllByRecursion IsEntry m →
       members_written name value no_members m ≡ Some ms →
-      IsAgain (SameKeys alike m) (members_taken of_name (λ n k d. and_then (read d) (λ v. if fits n k v then Ok (insert_entry order n k v) else Err TooLarge)) [] ms)
+      IsAgain (SameKeys alike m)
+      (members_taken of_name (λ n k d. and_then (read d) (λ v. if fits n k v then Ok (insert_entry order n k v) else Err TooLarge)) [] ms)
   pairs_again fits m ms up all is = members_again total name of_name value IsEntry named (SameKeys alike) _ taken [] m ms tt up all is
     where
       taken : (z n : Pairs) (e : Bytes × Bytes) (d : Data) → SameKeys alike z n → IsEntry e → look_up order z e.0 ≡ None → value e.1 ≡ Some d →
-          IsAgain (SameKeys alike (insert_entry order z e.0 e.1)) (and_then (read d) (λ v. if fits n e.0 v then Ok (insert_entry order n e.0 v) else Err TooLarge))
+          IsAgain (SameKeys alike (insert_entry order z e.0 e.1))
+          (and_then (read d) (λ v. if fits n e.0 v then Ok (insert_entry order n e.0 v) else Err TooLarge))
       taken z n e d h entry new v = then_again (alike e.1) (SameKeys alike (insert_entry order z e.0 e.1)) (read d) _ (again e d entry v)
           (λ y a. unless_large _ (fits n e.0 y) _ (insert_alike order alike z n e.0 e.1 y h a))
 
@@ -86,10 +88,11 @@ module _ {order : Order} (total : IsTotalOrder order) (name of_name : Bytes → 
     pair_taken z k0 new r m e d h entry absent v =
         then_again (alike e.1) (RowsAlike alike (with z k0 (insert_entry order r e.0 e.1))) (read d) _ (again e d entry v) (λ y a.
         let rows : SameKeys alike (unwrap_or (look_up order0 (with z k0 r) k0) []) (row order0 m k0) =
-        found_or_alike order0 (SameKeys alike) (with z k0 r) m k0 [] tt h in
+        found_or_alike order0 (SameKeys alike) [] tt (with z k0 r) m k0 h in
         let here : SameKeys alike r (row order0 m k0) = subst (λ s. SameKeys alike s (row order0 m k0)) (row_of_with z k0 r new) rows in
         let longer = insert_alike order alike r (row order0 m k0) e.0 e.1 y here a in
-        let all = insert_alike order0 (SameKeys alike) (with z k0 r) m k0 (insert_entry order r e.0 e.1) (insert_entry order (row order0 m k0) e.0 y) h longer in
+        let all = insert_alike order0 (SameKeys alike) (with z k0 r) m k0 (insert_entry order r e.0 e.1)
+        (insert_entry order (row order0 m k0) e.0 y) h longer in
         unless_large _ (fits m k0 e.0 y) _
         (subst (λ n. RowsAlike alike n (put order0 order m k0 e.0 y)) (onto_with z k0 r (insert_entry order r e.0 e.1) ∙ sym (with_insert z k0 e.0 e.1 r)) all))
 
@@ -109,11 +112,14 @@ module _ {order : Order} (total : IsTotalOrder order) (name of_name : Bytes → 
         go None i e = cc
         go (Some ms) i e =
             let same : object ms ≡ d = cc in
-            let read_row = members_again total name of_name value IsEntry named (λ s n. RowsAlike alike (with z r.0 s) n) (λ n k1 c. and_then (read c) (λ v. put_in n r.0 k1 v))
+            let read_row = members_again total name of_name value IsEntry named (λ s n. RowsAlike alike (with z r.0 s) n)
+            (λ n k1 c. and_then (read c) (λ v. put_in n r.0 k1 v))
             (pair_taken z r.0 new) m r.1 ms h (ordered r is) (entries r is) i in
             subst (λ c. IsAgain (RowsAlike alike (insert_entry order0 z r.0 r.1)) (row_taken m r.0 c)) same
             (subst (λ n. IsAgain (RowsAlike alike n) (row_in r.0 m ms)) (with_some z r.0 r.1 (some r is)) read_row)
 
-    pub rows_again : (m : Rows) (ms : Members) → AreInOrder order0 m → AllByRecursion IsRow m → members_written name0 (row_written name value) no_members m ≡ Some ms →
+    pub rows_again : (m : Rows) (ms : Members) → AreInOrder order0 m → AllByRecursion IsRow m →
+        members_written name0 (row_written name value) no_members m ≡ Some ms →
         IsAgain (RowsAlike alike m) (members_taken of_name0 row_taken [] ms)
-    rows_again m ms up all is = members_again total0 name0 of_name0 (row_written name value) IsRow named0 (RowsAlike alike) row_taken next_row [] m ms tt up all is
+    rows_again m ms up all is =
+        members_again total0 name0 of_name0 (row_written name value) IsRow named0 (RowsAlike alike) row_taken next_row [] m ms tt up all is

@@ -1,17 +1,16 @@
 -- Hash tables that are written and read again.
-use Rattle.std.proofs.Common.{◌≡◌, ℕ, ◌<◌, ◌^◌, List, [], ◌∷◌, length, map, Bool, Option, Some, None, is_none, Result, Ok, Err, refl, sym, ap, ◌∙◌, subst, arith}
-use Rattle.std.proofs.Common.{if◌then◌else◌}
+use Rattle.std.proofs.Common.{◌≡◌, ℕ, ◌<◌, ◌^◌, List, [], ◌∷◌, length, map, Bool, Option, Some, None, Result}
+use Rattle.std.proofs.Common.{Ok, refl, sym, ap, ◌∙◌, arith}
 use Rattle.std.proofs.lemmas.Bool.Decides.{nat_tests}
 use Rattle.std.proofs.lemmas.Grind.{common_steps}
 use Rattle.std.specs.List.{AllByRecursion}
 use Rattle.serde_json.specs.Data.{Data}
 use Rattle.zv_hashmap.specs.Table.{parts_fault}
 use Rattle.zv_json.specs.Again.{AreElements, EachAlike, IsAgain, ReadsAgain, list_again, then_again}
-use Rattle.zv_json.specs.Arrays.{all_written, array_written, list_in}
-use Rattle.zv_json.specs.Back.{array_items, list_back, split, then_ok}
-use Rattle.zv_json.specs.Json.{and_then, items_in}
+use Rattle.zv_json.specs.Arrays.{array_written, list_in}
+use Rattle.zv_json.specs.Back.{array_items, list_back, split}
+use Rattle.zv_json.specs.Json.{items_in}
 use Rattle.zv_json.specs.declared.error.JsonError.{JsonError}
-use Rattle.zv_json.specs.declared.error.JsonError.TheVariants.{Shape}
 use Rattle.zv_map.specs.Keys.{IsElementOf}
 use Rattle.zv_map1.specs.Views.{Bytes}
 use Rattle.zv_owned.specs.Size.{takes_pushes}
@@ -71,11 +70,12 @@ module _ {fault : Bytes → Option UleError} (alike : Bytes → Bytes → Type 0
       (list_again fault alike written read again xs d (elements_are fault xs h) is) (λ ys a. unless_large (EachAlike alike xs) (takes_pushes takes [] ys) ys a)
 
 module _ {A : Type 0} {is_value : A → Type 0} {written : A → Option Data} {read : Data → Result A JsonError}
-    (back : (v : A) (d : Data) → is_value v → written v ≡ Some d → read d ≡ Ok v) {kfault vfault : Bytes → Option UleError} (kalike valike : Bytes → Bytes → Type 0)
+    (back : (v : A) (d : Data) → is_value v → written v ≡ Some d → read d ≡ Ok v) {kfault vfault : Bytes → Option UleError}
+    (kalike valike : Bytes → Bytes → Type 0)
     {key value : Bytes → Option Data} (of_key of_value : Data → Result Bytes JsonError) (kagain : ReadsAgain kfault kalike key of_key)
     (vagain : ReadsAgain vfault valike value of_value) where
-  counted_again : (ds : List A) (ks vs xs ys : List Bytes) → parts_fault (length ds) (length ks) (length vs) ≡ None → EachAlike kalike ks xs → EachAlike valike vs ys →
-      IsAgain (TableAlike kalike valike ds ks vs) (counted ds xs ys)
+  counted_again : (ds : List A) (ks vs xs ys : List Bytes) → parts_fault (length ds) (length ks) (length vs) ≡ None → EachAlike kalike ks xs →
+      EachAlike valike vs ys → IsAgain (TableAlike kalike valike ds ks vs) (counted ds xs ys)
   counted_again ds ks vs xs ys none k v = rw (same_length kalike ks xs k, same_length valike vs ys v, none) (refl, (k, v))
 
   pub table_again : (takes_key takes_value : List Bytes → ℕ → Bool) (ds : List A) (ks vs : List Bytes) (d : Data) → AllByRecursion is_value ds →

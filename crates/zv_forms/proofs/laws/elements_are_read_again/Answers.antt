@@ -14,7 +14,8 @@ returns g c d is =
     let xs = vector_list c.args.list.now in
     let alike = EachAlike g.T.JsonAgain.Alike xs in
     let are : AreElements g.T.ZvKind.fault xs =
-    subst (AreElements g.T.ZvKind.fault) c.as_slice-list.ensures.list (elements_are w g.T.ZvKind.fault s.bytes.now g.F.VarZeroVecFormat.width_positive s.each s.spells) in
+    subst (AreElements g.T.ZvKind.fault) c.as_slice-list.ensures.list
+    (elements_are w g.T.ZvKind.fault s.bytes.now g.F.VarZeroVecFormat.width_positive s.each s.spells) in
     then_again alike alike (list_in g.T.JsonKind.of_data d) (list_taken w)
     (list_again g.T.ZvKind.fault g.T.JsonAgain.Alike g.T.JsonKind.to_data g.T.JsonKind.of_data (g.met.T.JsonAgain.again s.usable) xs d are is)
     (λ ys a. unless_large alike (length ys == 0 || is_some (serialized_len (λ _. true) (λ x. x) w ys)) ys a)

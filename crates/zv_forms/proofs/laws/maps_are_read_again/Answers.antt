@@ -6,7 +6,8 @@ use Rattle.zv_forms.proofs.laws.maps_are_read_again.Goals as goal
 
 pub returns-clause-named : goal.returns-clause-named
 returns-clause-named g c rule d named =
-    named_map_again g.met.K.ZvOrd.total g.met.K.JsonAgain.named_again g.V.JsonAgain.Alike g.V.JsonKind.of_data (g.met.V.JsonAgain.again c.values.result.usable) rule
+    named_map_again g.met.K.ZvOrd.total g.met.K.JsonAgain.named_again g.V.JsonAgain.Alike g.V.JsonKind.of_data
+    (g.met.V.JsonAgain.again c.values.result.usable) rule
     g.K.JsonKind.to_data g.K.JsonKind.of_data g.K.JsonKind.KEY c.args.map.now.pairs d named c.in_order.ensures.ascending c.in_order.ensures.keys
     (subst (AllByRecursion (IsElementOf g.V.ZvKind.fault)) c.values.ensures.list c.elements_are_valid.ensures)
 
