@@ -74,8 +74,10 @@ impl Commands {
         }
     }
 
-    /// Adds a command, where the list stays within [`MAX_COMMANDS`].
+    /// Adds a command, where the list stays within [`MAX_COMMANDS`]. (It is inlined, so that a
+    /// command is put together where it is kept.)
     #[tactic(auto, using(crate::proofs::SizesOfPuts::added_sizes))]
+    #[inline(always)]
     pub fn push(&mut self, command: Command) -> Result<(), CommandsError>
         ensures ok { OnOk result (self.new ≡ self.old ++ command ∷ []) }
         ensures full { IsErrOf result CommandsError.Full
@@ -96,6 +98,7 @@ impl Commands {
 
     /// Adds a command, for which the list has room.
     #[tactic(auto, using(crate::proofs::SizesOfPuts::added_sizes))]
+    #[inline(always)]
     pub fn add(&mut self, command: Command) -> Result<(), NoMemory>
         requires { total_size self.old + command_size command ≤ MAX_COMMANDS }
         ensures ok { OnOk result (self.new ≡ self.old ++ command ∷ []) }
