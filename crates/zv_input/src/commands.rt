@@ -21,6 +21,7 @@ pub enum CommandsError {
 }
 
 // Adds a command at the end.
+#[inline(always)]
 fn append(commands: &mut Vec<Command>, command: Command) -> Result<(), CommandsError>
     ensures ok { OnOk result (commands.new.items ≡ commands.old.items ++ command ∷ []) }
     ensures err { OnErr result (VecUnchanged commands.old commands.new) }
