@@ -80,8 +80,8 @@ module _ (fault : List ℕ → Option UleError) (alike : List ℕ → List ℕ �
         omega (arith, rest.0),
         then_again (alike (field_at xs i)) P (read s.first) _
             (again (field_at xs i) s.first (field_bytes xs i bytes) none.0 s.first_is)
-            (λ x p. then_again (λ ys. (length ys ≡ length faults) × alikes (i + 1) xs ys) P (reads s.rest)
-            _ rest.1 (λ ys q. (omega (arith, q.0), (p, q.1)))),
+            (λ x p. then_again (λ ys. (length ys ≡ length faults) × alikes (i + 1) xs ys) P
+            (reads s.rest) _ rest.1 (λ ys q. (omega (arith, q.0), (p, q.1)))),
       )
 
 -- the fields of bytes without a fault are bytes
@@ -129,7 +129,7 @@ module _ (w n : ℕ) (faults : List (List ℕ → Option UleError))
       let f = again 0 xs i.items each none.1 i.all in
       let P : List (List ℕ) → Type 0 = λ ys. (length ys ≡ length faults) × alikes 0 xs ys in
       let count : (length i.items == n) ≡ true = grind (arith, nat_tests, f.0) in
-      rw (i.items_are, count) (then_again P (λ x. alikes 0 xs (elements_after w n x)) (reads i.items)
-      (record_of_fields w) f.1 (λ ys p. subst
+      rw (i.items_are, count) (then_again P (λ x. alikes 0 xs (elements_after w n x))
+      (reads i.items) (record_of_fields w) f.1 (λ ys p. subst
       (λ m. IsAgain (λ x. alikes 0 xs (elements_after w m x)) (record_of_fields w ys)) (p.0 ∙ many)
       (encoded_again w (alikes 0 xs) ys narrow p.1)))
