@@ -1,27 +1,27 @@
 -- The walks over pairs and over rows.
-use Rattle.zv_layers.proofs.Common.{◌≡◌, ◌∙◌, ℕ, ◌+◌, ◌≤◌, List, [], ◌∷◌, Option, Some, None, refl, ap, arith, length, length-append, sym, length-map}
-use Rattle.zv_layers.proofs.Common.{YieldsFirst, YieldsFirstBy, map, ⊤, element_of, VarRef, left_of, pair_of, IsMap, keys_of, ZeroMapIter, by_bytes, Bytes}
-use Rattle.zv_layers.proofs.Common.{rows_left, IsRow, IsWell, Rows, seconds, Row, ZeroMap2dIter0, outcome, overlay, row_triples, triples, next_of, over_row}
-use Rattle.zv_layers.proofs.Common.{pairs_of, row_of, upper_of, Next, One, Both}
+use Rattle.zv_layers.proofs.Common.{◌≡◌, ℕ, ◌+◌, ◌≤◌, List, [], ◌∷◌, Option, Some, None, refl, ap, arith, length, length-append, length-map, YieldsFirst}
+use Rattle.zv_layers.proofs.Common.{YieldsFirstBy, map, ⊤, element_of, VarRef, left_of, pair_of, IsMap, keys_of, ZeroMapIter, by_bytes, Bytes, rows_left, IsRow}
+use Rattle.zv_layers.proofs.Common.{IsWell, Rows, seconds, Row, ZeroMap2dIter0, overlay, over_row, pairs_of, row_of, upper_of, Next, One, Both, Lists}
+use Rattle.zv_layers.proofs.Common.{columns_of, with_pairs, with_row}
 use Rattle.zv_ule.specs.declared.kind.ZvKind.{Ghosts as KindGhosts}
 use Rattle.zv_ule.specs.declared.kind.ZvOrd.{Ghosts as OrdGhosts}
+use Rattle.zv_layers.proofs.Grown.{all_rows, more_pairs, no_pairs, with_rows}
 use Rattle.zv_layers.proofs.Laid.{anything}
-use Rattle.zv_layers.proofs.Overlays.{over_none, overlay_laid, pairs_alone}
-use Rattle.zv_layers.proofs.Puts.{none_refused}
-use Rattle.zv_layers.proofs.Walks.{AreGood, Loop, Walk, ends, entry_of, spent, starts}
+use Rattle.zv_layers.proofs.Overlays.{overlay_laid, pairs_alone}
+use Rattle.zv_layers.proofs.Walks.{AreGood, Loop, Walk, entry_of, spent, starts}
 
 -- ---- pairs
 
 pub one_more : (e : Bytes × Bytes) (es : List (Bytes × Bytes)) → length (e ∷ es) ≡ 1 + length es
 one_more e es = omega arith
 
-module _ {K V : Type 0} {kind : KindGhosts K} {value : KindGhosts V} (k0 : Bytes) where
+module _ {K V : Type 0} {kind : KindGhosts K} {value : KindGhosts V} where
   pub as_they_are : (s t : ZeroMapIter K V kind value) (r : Option (VarRef K kind × VarRef V value)) → YieldsFirstBy pair_of left_of s r t →
       YieldsFirstBy (λ p. (element_of p.0, element_of p.1)) left_of s r t
   as_they_are s t r gives = gives
 
   -- those of a row
-  abbrev pub pairs_walk : Walk (VarRef K kind × VarRef V value) Bytes (ZeroMapIter K V kind value)
+  abbrev pub pairs_walk : Walk (VarRef K kind × VarRef V value) Bytes (ZeroMapIter K V kind value) Lists
   pairs_walk = record {
     key = λ p. element_of p.0;
     what = λ p. element_of p.1;
@@ -32,10 +32,10 @@ module _ {K V : Type 0} {kind : KindGhosts K} {value : KindGhosts V} (k0 : Bytes
     weight = λ e. 1;
     cost = length;
     adds = one_more;
-    one = λ p. (k0, p.0, p.1) ∷ [];
-    flat = row_triples k0;
-    none = refl;
-    more = λ e es. refl;
+    one = λ c p. with_pairs c (p ∷ []);
+    all = with_pairs;
+    none = no_pairs;
+    more = more_pairs;
     P = λ e. ⊤;
     plain = λ e h. refl;
   }
@@ -49,7 +49,7 @@ module _ {K V : Type 0} {kind : KindGhosts K} {value : KindGhosts V} (k0 : Bytes
 
   -- the pair that counts is the entry that comes next
   pub pair_is : (next : Next (VarRef K kind × VarRef V value)) →
-      row_triples k0 (entry_of pairs_walk next ∷ []) ≡ (k0, element_of (upper_of next).0, element_of (upper_of next).1) ∷ []
+      entry_of pairs_walk next ≡ (element_of (upper_of next).0, element_of (upper_of next).1)
   pair_is (One p) = refl
   pair_is (Both p q) = refl
 
@@ -77,7 +77,7 @@ module _ {K0 K1 V : Type 0} {ord0 : OrdGhosts K0} {kind0 : KindGhosts K0} {ord1 
   as_entries s t None gives = (ap (map entry_in) gives.0, ap (map entry_in) gives.1)
   as_entries s t (Some x) gives = ap (map entry_in) gives
 
-  abbrev pub rows_walk : Walk Row (List (Bytes × Bytes)) (ZeroMap2dIter0 K0 K1 V ord0 kind0 ord1 kind1 value)
+  abbrev pub rows_walk : Walk Row (List (Bytes × Bytes)) (ZeroMap2dIter0 K0 K1 V ord0 kind0 ord1 kind1 value) Lists
   rows_walk = record {
     key = λ r. r.key;
     what = λ r. r.pairs;
@@ -88,10 +88,10 @@ module _ {K0 K1 V : Type 0} {ord0 : OrdGhosts K0} {kind0 : KindGhosts K0} {ord1 
     weight = row_weight;
     cost = count;
     adds = count_more;
-    one = λ r. row_triples r.0 r.1;
-    flat = triples;
-    none = refl;
-    more = λ e es. refl;
+    one = with_row;
+    all = with_rows;
+    none = λ c. refl;
+    more = λ c r m. refl;
     P = IsRow by_bytes;
     plain = λ r h. pairs_alone r.1 h.1;
   }
@@ -103,21 +103,14 @@ module _ {K0 K1 V : Type 0} {ord0 : OrdGhosts K0} {kind0 : KindGhosts K0} {ord1 
   rows_spent b (One row) = omega arith
   rows_spent b (Both base over) = omega arith
 
-  pub row_is : (b : ZeroMap2dIter0 K0 K1 V ord0 kind0 ord1 kind1 value) (next : Next Row) →
-      row_triples (entry_of rows_walk next).0 (entry_of rows_walk next).1 ≡ row_triples (row_of next).0 (row_of next).1
+  pub row_is : (b : ZeroMap2dIter0 K0 K1 V ord0 kind0 ord1 kind1 value) (next : Next Row) → entry_of rows_walk next ≡ row_of next
   row_is b (One row) = refl
   row_is b (Both base over) = refl
 
   -- at the start
-  pub row_starts : (b o b2 o2 : ZeroMap2dIter0 K0 K1 V ord0 kind0 ord1 kind1 value) (low up : Option Row) (m n left : Rows) (steps : ℕ) →
-      entries_left b ≡ m → entries_left o ≡ n → left ≡ [] → IsWell by_bytes by_bytes m → IsWell by_bytes by_bytes n → YieldsFirst rows_left b low b2 →
-      YieldsFirst rows_left o up o2 → Loop rows_walk low up b2 o2 left steps steps (steps + count m + count n) (outcome [] (triples (overlay m n)))
-  row_starts b o b2 o2 low up m n left steps below above none wm wn gb go =
-      let start = starts rows_walk b o b2 o2 low up [] steps (rw below (rows_good m wm)) (rw above (rows_good n wn)) gb go in
-      rw (none, overlay_laid m n wn.1, ← below, ← above) start
-
-  -- at the end, where all that was put in order is a map in order
-  pub row_ends : {lower upper l u : Option Row} {b o : ZeroMap2dIter0 K0 K1 V ord0 kind0 ord1 kind1 value} {m : Rows} {steps first budget : ℕ} (n : Rows) →
-      Loop rows_walk lower upper b o m steps first budget (outcome [] (triples n)) → (None, l, u) ≡ next_of (λ r. r.key) lower upper →
-      IsWell by_bytes by_bytes n → m ≡ n
-  row_ends n at same well = sym (none_refused [] (triples n) (sym (ends rows_walk at same))).1 ∙ over_none n well
+  pub row_starts : (b o b2 o2 : ZeroMap2dIter0 K0 K1 V ord0 kind0 ord1 kind1 value) (low up : Option Row) (m n : Rows) (c : Lists) (steps : ℕ) →
+      entries_left b ≡ m → entries_left o ≡ n → c ≡ columns_of [] → IsWell by_bytes by_bytes m → IsWell by_bytes by_bytes n → YieldsFirst rows_left b low b2 →
+      YieldsFirst rows_left o up o2 → Loop rows_walk low up b2 o2 c steps steps (steps + count m + count n) (columns_of (overlay m n))
+  row_starts b o b2 o2 low up m n c steps below above none wm wn gb go =
+      let start = starts rows_walk b o b2 o2 low up (columns_of []) steps (rw below (rows_good m wm)) (rw above (rows_good n wn)) gb go in
+      rw (none, ← all_rows (overlay m n), overlay_laid m n wn.1, ← below, ← above) start

@@ -1,14 +1,13 @@
--- A walk over two lists of entries, whose loop puts what comes into a map.
-use Rattle.zv_layers.proofs.Common.{◌≡◌, ◌∙◌, ℕ, ◌+◌, ◌<◌, ◌≤◌, List, [], ◌∷◌, ◌++◌, Option, Some, None, Result, Ok, Err, refl, ap, sym, arith, subst, inl}
-use Rattle.zv_layers.proofs.Common.{inr, sorted_head, sorted_tail, YieldsFirstBy, AllByRecursion, MatchOption, ◌⊎◌, ⊤, Ordering, Less, Equal, Greater, IsMap}
-use Rattle.zv_layers.proofs.Common.{keys_of, Triple, by_bytes, Bytes, Rows, Map2dError, outcome, laid, next_of, taken_by, Next, One, Both}
-use Rattle.zv_map2d.specs.declared.error.Map2dError.TheVariants.{Memory}
+-- A walk over two lists of entries, whose loop adds what comes to what it has.
+use Rattle.zv_layers.proofs.Common.{◌≡◌, ◌∙◌, ℕ, ◌+◌, ◌<◌, ◌≤◌, List, [], ◌∷◌, Option, Some, None, refl, ap, sym, arith, subst, sorted_head, sorted_tail}
+use Rattle.zv_layers.proofs.Common.{YieldsFirstBy, AllByRecursion, MatchOption, ⊤, Ordering, Less, Equal, Greater, IsMap, keys_of, by_bytes, Bytes, laid}
+use Rattle.zv_layers.proofs.Common.{next_of, taken_by, Next, One, Both}
 use Rattle.zv_layers.proofs.Laid.{above, equal, greater, less, past}
-use Rattle.zv_layers.proofs.Puts.{after_err, after_ok}
 
 -- a walk over entries: what items have of keys and of what goes with them, what iterators have left and give, how an upper entry joins a
--- lower one, how much an entry and entries cost, which triples they are, what holds of each entry, and that it is the same where it is alone
-pub record Walk (T X I : Type 0) : Type 1 where
+-- lower one, how much an entry and entries cost, what an entry and entries make of what there is, what holds of each entry, and that it is
+-- the same where it is alone
+pub record Walk (T X I S : Type 0) : Type 1 where
   pub key : T → Bytes
   pub what : T → X
   pub left : I → List (Bytes × X)
@@ -18,14 +17,14 @@ pub record Walk (T X I : Type 0) : Type 1 where
   pub weight : Bytes × X → ℕ
   pub cost : List (Bytes × X) → ℕ
   pub adds : (e : Bytes × X) (es : List (Bytes × X)) → cost (e ∷ es) ≡ weight e + cost es
-  pub one : Bytes × X → List Triple
-  pub flat : List (Bytes × X) → List Triple
-  pub none : flat [] ≡ []
-  pub more : (e : Bytes × X) (es : List (Bytes × X)) → flat (e ∷ es) ≡ one e ++ flat es
+  pub one : S → Bytes × X → S
+  pub all : S → List (Bytes × X) → S
+  pub none : (s : S) → all s [] ≡ s
+  pub more : (s : S) (e : Bytes × X) (es : List (Bytes × X)) → all s (e ∷ es) ≡ all (one s e) es
   pub P : Bytes × X → Type 0
   pub plain : (e : Bytes × X) → P e → join None e.1 ≡ e.1
 
-module _ {T X I : Type 0} (w : Walk T X I) where
+module _ {T X I S : Type 0} (w : Walk T X I S) where
   -- the entries from a head on
   abbrev pub ahead : Option T → List (Bytes × X) → List (Bytes × X)
   ahead None es = es
@@ -104,12 +103,12 @@ module _ {T X I : Type 0} (w : Walk T X I) where
   HasHead head i = MatchOption head (w.left i ≡ []) (λ _. ⊤)
 
   -- where the loop stands: what is left of both lists comes to what all comes to, and the steps are paid for
-  pub record Loop (lower upper : Option T) (b o : I) (m : Rows) (steps first budget : ℕ) (whole : Result Rows Map2dError) : Type 0 where
+  pub record Loop (lower upper : Option T) (b o : I) (m : S) (steps first budget : ℕ) (whole : S) : Type 0 where
     pub base_end : HasHead lower b
     pub over_end : HasHead upper o
     pub base : AreGood (ahead lower (w.left b))
     pub over : AreGood (ahead upper (w.left o))
-    pub rest : outcome m (w.flat (laid w.join (ahead lower (w.left b)) (ahead upper (w.left o)))) ≡ whole
+    pub rest : w.all m (laid w.join (ahead lower (w.left b)) (ahead upper (w.left o))) ≡ whole
     pub counted : first ≤ steps
     pub paid : steps + w.cost (ahead lower (w.left b)) + w.cost (ahead upper (w.left o)) ≤ budget
 
@@ -123,8 +122,8 @@ module _ {T X I : Type 0} (w : Walk T X I) where
   filled (Some h) new s t gives = rw (gives.0, gives.1) (refl, tt)
 
   -- at the start
-  pub starts : (b o b2 o2 : I) (low up : Option T) (m : Rows) (steps : ℕ) → AreGood (w.left b) → AreGood (w.left o) → w.Gives b low b2 → w.Gives o up o2 →
-      Loop low up b2 o2 m steps steps (steps + w.cost (w.left b) + w.cost (w.left o)) (outcome m (w.flat (laid w.join (w.left b) (w.left o))))
+  pub starts : (b o b2 o2 : I) (low up : Option T) (m : S) (steps : ℕ) → AreGood (w.left b) → AreGood (w.left o) → w.Gives b low b2 → w.Gives o up o2 →
+      Loop low up b2 o2 m steps steps (steps + w.cost (w.left b) + w.cost (w.left o)) (w.all m (laid w.join (w.left b) (w.left o)))
   starts b o b2 o2 low up m steps gb go below above =
       let fb = filled None low b b2 below in
       let fo = filled None up o o2 above in
@@ -138,7 +137,7 @@ module _ {T X I : Type 0} (w : Walk T X I) where
         paid = rw (fb.0, fo.0) (omega arith);
       }
 
-  module _ {lower upper : Option T} {b o : I} {m : Rows} {steps first budget : ℕ} {whole : Result Rows Map2dError}
+  module _ {lower upper : Option T} {b o : I} {m : S} {steps first budget : ℕ} {whole : S}
       (at : Loop lower upper b o m steps first budget whole) where
     abbrev bs : List (Bytes × X)
     bs = ahead lower (w.left b)
@@ -154,31 +153,19 @@ module _ {T X I : Type 0} (w : Walk T X I) where
         (walks lower upper (w.left b) (w.left o) at.base_end at.over_end at.base at.over)
 
     -- nothing is left
-    pub ends : {l u : Option T} → (None, l, u) ≡ next_of w.key lower upper → Ok m ≡ whole
-    ends same = sym (ap (outcome m) (ap w.flat (took None _ _ same) ∙ w.none)) ∙ at.rest
+    pub ends : {l u : Option T} → (None, l, u) ≡ next_of w.key lower upper → m ≡ whole
+    ends same = sym (ap (w.all m) (took None _ _ same) ∙ w.none m) ∙ at.rest
 
     module _ {next : Next T} {l u : Option T} (same : (Some next, l, u) ≡ next_of w.key lower upper) where
-      abbrev left_over : List Triple
-      left_over = w.flat (laid w.join (ahead l (w.left b)) (ahead u (w.left o)))
-
-      -- the next entry comes first, and then the others
-      splits : outcome m (w.one (entry_of next) ++ left_over) ≡ whole
-      splits = sym (ap (outcome m) (ap w.flat (took (Some next) l u same).is ∙ w.more (entry_of next) _)) ∙ at.rest
-
-      -- it is refused, and so are all
-      pub stops : {e : Map2dError} {ts : List Triple} → w.one (entry_of next) ≡ ts → (e ≡ Memory) ⊎ (outcome m ts ≡ Err e) → (e ≡ Memory) ⊎ (whole ≡ Err e)
-      stops is (inl memory) = inl memory
-      stops is (inr refused) = inr (sym splits ∙ after_err m (w.one (entry_of next)) left_over (ap (outcome m) is ∙ refused))
-
       -- what was spent is paid for
       pub pays : {later : ℕ} → later ≤ steps + spent next → later ≤ budget
       pays few = omega (arith, few, (took (Some next) l u same).paid, at.paid)
 
       module _ (b2 o2 : I) (low up : Option T) (below : IsFilled l b low b2) (above : IsFilled u o up o2) where
-        -- or it is put, and the heads are filled again
-        pub turns : {n : Rows} {later : ℕ} {ts : List Triple} → w.one (entry_of next) ≡ ts → outcome m ts ≡ Ok n → later ≤ steps + spent next → steps ≤ later →
+        -- it is added, and the heads are filled again
+        pub turns : {n : S} {later : ℕ} → n ≡ w.one m (entry_of next) → later ≤ steps + spent next → steps ≤ later →
             Loop low up b2 o2 n later first budget whole
-        turns is put few grown =
+        turns added few grown =
             let t = took (Some next) l u same in
             let fb = filled l low b b2 below in
             let fo = filled u up o o2 above in
@@ -187,7 +174,7 @@ module _ {T X I : Type 0} (w : Walk T X I) where
               over_end = fo.1;
               base = rw fb.0 t.base;
               over = rw fo.0 t.over;
-              rest = rw (fb.0, fo.0) (sym (after_ok m (w.one (entry_of next)) left_over (ap (outcome m) is ∙ put)) ∙ splits);
+              rest = rw (fb.0, fo.0, added) (sym (ap (w.all m) t.is ∙ w.more m (entry_of next) _) ∙ at.rest);
               counted = omega (arith, grown, at.counted);
               paid = rw (fb.0, fo.0) (omega (arith, few, t.paid, at.paid));
             }

@@ -1,5 +1,5 @@
+pub mod Columns
 pub mod Laws
 pub mod Overlays
-pub mod Puts
 pub mod Requests
 pub mod Walks

@@ -1,6 +1,7 @@
 //! One map laid over another, and the form `layers`: images laid one over another.
 #![tactic(auto)]
 
+mod columns;
 mod form;
 pub mod laws;
 mod overlay;
