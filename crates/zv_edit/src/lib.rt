@@ -8,5 +8,5 @@ mod replies;
 mod serving;
 
 pub use edit::{Edit, edit2d};
-pub use look::{Look, look2d};
+pub use look::{Look, look2d, tell_found};
 pub use serving::serve;

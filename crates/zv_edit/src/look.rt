@@ -68,8 +68,11 @@ fn send_found<K: Sink>(
     out.send()
 }
 
-// Tells a value that was found, or that there is none.
-fn tell<K: Sink>(value: Option<VarRef<'_, SliceULE<u8>>>, sink: &mut K) -> Result<(), Failed>
+/// Tells a value that was found, or that there is none.
+pub fn tell_found<K: Sink>(
+    value: Option<VarRef<'_, SliceULE<u8>>>,
+    sink: &mut K,
+) -> Result<(), Failed>
     ensures text { Takes (K.taken sink.old) (K.taken sink.new) result
         (found_line (option_map element_of value.entry)) }
     ensures cause { HasCause (K.faults sink.old) (K.faults sink.new) result }
@@ -102,7 +105,7 @@ impl Request for Look {
 
     fn answer<K: Sink>(&self, _alloc: Global, image: &[u8], sink: &mut K) -> Status {
         match look2d(image, self.key0.as_str(), self.key1.as_str()) {
-            Ok(value) => status_of(tell(value, sink)),
+            Ok(value) => status_of(tell_found(value, sink)),
             Err(cause) => refuse(sink, cause),
         }
     }

@@ -6,7 +6,7 @@ use Rattle.std.proofs.lemmas.Bool.Decides.{Decides-and as both, Decides-below_an
 use Rattle.std.proofs.lemmas.Bool.Decides.{Decides-not as fails, Decides-or as either, not_from_Decides}
 
 -- a fact with a test of it
-abbrev Test : Type 0 → Type 0
+abbrev pub Test : Type 0 → Type 0
 Test P = (passes : Bool) × Decides passes P
 
 -- a test of a fact's parts is a test of the fact, and one that shows them shows it
@@ -66,11 +66,15 @@ choice hs ds g =
     (both _ _ (candidate (length hs) d).1 (both _ _ (fits hs ds g d).1
     (every_candidate (length hs) (λ e. implies _ _ (either _ _ (less e.0 d.0) (both _ _ (equal e.0 d.0) (less e.1 d.1))) (fails _ (fits hs ds g e).1))).1))
 
-abbrev pub chosen : (hs : List ℕ) (ds : List (ℕ × ℕ)) → (passes : Bool) × (passes ≡ true → Chosen hs ds)
-chosen hs ds =
-    shown (λ h. record { len = h.0; choices = λ g k. (h.1 g k).0; empty = λ g k. (h.1 g k).1 })
+-- a test of whether displacements are the chosen ones
+abbrev pub chosen_test : (hs : List ℕ) (ds : List (ℕ × ℕ)) → Test (Chosen hs ds)
+chosen_test hs ds =
+    by_parts (λ h. record { len = h.0; choices = λ g k. (h.1 g k).0; empty = λ g k. (h.1 g k).1 }) (λ c. (c.len, λ g k. (c.choices g k, c.empty g k)))
     (both _ _ (equal (length ds) (length hs)) (every (length hs) (λ g. both _ _ (implies _ _ (less 0 (size hs g)) (choice hs ds g).1)
     (implies _ _ (equal (size hs g) 0) (equal_pairs (displacement ds g) (0, 0))))))
+
+abbrev pub chosen : (hs : List ℕ) (ds : List (ℕ × ℕ)) → (passes : Bool) × (passes ≡ true → Chosen hs ds)
+chosen hs ds = let test = chosen_test hs ds in (test.0, test.1.0)
 
 -- bucket g is stuck where the buckets before it have their displacements by ds
 abbrev pub stuck : (hs : List ℕ) (ds : List (ℕ × ℕ)) (g : ℕ) → (passes : Bool) × (passes ≡ true → IsStuck hs g)

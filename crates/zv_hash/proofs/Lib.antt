@@ -4,5 +4,5 @@ mod Slots
 mod Links
 mod Choices
 mod Fillings
-mod Decide
+pub mod Decide
 mod Stuck

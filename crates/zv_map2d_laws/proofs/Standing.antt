@@ -27,7 +27,7 @@ use Rattle.zv_map2d.specs.Frame.{Parts, frame, unframe}
 use Rattle.zv_map2d.specs.Formats.{IsFormed, code, head, head_of, mark, unformed, wide_named, width}
 use Rattle.zv_map2d.specs.Image.{by_bytes, bytes_fault, texts_in, Spells, Stands, spelling_in, fault_of, fault, wides_of}
 use Rattle.zv_map2d.specs.declared.image.WideLists.{WideLists}
-use Rattle.zv_map2d_laws.specs.Laws.{CanonStands, FrameExactly, IsCodable, IsReadExactly, StandsForOne}
+use Rattle.zv_map2d_laws.specs.Laws.{CanonStands, FrameExactly, IsCodable, IsReadExactly, ReadsAsRows, StandsForOne}
 use Rattle.zv_map2d.specs.declared.error.EditError.{EditError}
 use Rattle.zv_map2d.proofs.Flat.{before_within, end_at, length_ends, length_pick, view_of}
 use Rattle.zv_map2d.proofs.Numbers.{as_joiner}
@@ -139,6 +139,9 @@ read_exactly image bytes l = (
   ]) refl,
   λ s. none_from_stands image s.0 l s.1,
 )
+
+pub reads_as_rows : ReadsAsRows
+reads_as_rows image m l s = rw (read_back image s.lists s.parts l s.formed) (sym (view_of (lists_are m s)))
 
 pub one_map : StandsForOne
 one_map image m n l s t =

@@ -1,14 +1,16 @@
 -- The laws of images, and of changes of the maps that they stand for, each a clause of a function.
 use Rattle.std.specs.Prelude.{◌≡◌, ℕ, ◌-◌, ◌*◌, ◌^◌, ◌<◌, ◌≤◌, ◌↔◌, true, List, [], length}
 use Rattle.std.specs.Prelude.{Some, None}
+use Rattle.std.specs.Option.{option_map_or}
 use Rattle.zv_ule.specs.Bytes.{IsBytes}
 use Rattle.zv_ule.specs.Kinds.{text_fault}
 use Rattle.zv_var.specs.Format.{codable}
 use Rattle.zv_map2d.specs.Keys.{Bytes}
 use Rattle.zv_map2d.specs.Rows.{Rows, firsts, seconds, values, IsWell, put, del}
-use Rattle.zv_map2d.specs.Formats.{IsFormed}
+use Rattle.zv_map2d.specs.Causes.{rows_read}
+use Rattle.zv_map2d.specs.Formats.{IsFormed, unformed}
 use Rattle.zv_map2d.specs.Frame.{Parts}
-use Rattle.zv_map2d.specs.Image.{IsTextMap, Stands, by_bytes, fault, canon, spelling_in}
+use Rattle.zv_map2d.specs.Image.{IsTextMap, Stands, by_bytes, fault, canon, spelling_in, texts_in}
 use Rattle.zv_map2d.specs.Fits.{fits, fits_texts, fits_texts_in, texts_rule_in}
 use Rattle.zv_map2d.specs.declared.error.EditError.{EditError}
 use Rattle.zv_map2d.specs.declared.image.WideLists.{WideLists}
@@ -22,6 +24,15 @@ IsReadExactly = (image : List ℕ) → IsBytes image → length image < 2 ^ 64 -
 abbrev pub StandsForOne : Type 0
 StandsForOne = (image : List ℕ) (m n : Rows) → length image < 2 ^ 64 - 1 →
     Stands image m → Stands image n → m ≡ n
+
+-- the rows that an image is read as, none where it is not formed
+abbrev pub rows_in : List ℕ → Rows
+rows_in image = option_map_or (λ f. rows_read (texts_in f.0) f.1) (unformed image) []
+
+-- the map that an image stands for has these rows
+abbrev pub ReadsAsRows : Type 0
+ReadsAsRows = (image : List ℕ) (m : Rows) → length image < 2 ^ 64 - 1 → Stands image m →
+    m ≡ rows_in image
 
 -- the lists of the map can be written, with fields of four bytes
 pub record IsCodable (m : Rows) : Type 0 where

@@ -15,7 +15,7 @@ ghost use Rattle.zv_map2d_laws.specs.ImageRows.{OwnErrors, Prefixes, Texts, TwoR
 ghost use Rattle.zv_map2d_laws.specs.Laws.{CanonAgain, CanonBounded, CanonStands, DelCodable};
 ghost use Rattle.zv_map2d_laws.specs.Laws.{DelKeeps, EmptyStands, FitsAlike, FrameExactly};
 ghost use Rattle.zv_map2d_laws.specs.Laws.{IsReadExactly, OneSpelling, PutCodable, PutKeeps};
-ghost use Rattle.zv_map2d_laws.specs.Laws.{SameCanon, StandsForOne};
+ghost use Rattle.zv_map2d_laws.specs.Laws.{ReadsAsRows, SameCanon, StandsForOne};
 ghost use Rattle.zv_map2d_laws.specs.Locales.{Locales};
 ghost use Rattle.zv_map2d_laws.specs.Sizes.{DelShrinks, ImageHolds, PutGrows, SmallFits};
 
@@ -51,6 +51,7 @@ pub fn worked_heads()
 pub fn laws()
     ensures read { IsReadExactly }
     ensures one { StandsForOne }
+    ensures rows { ReadsAsRows }
     ensures canon { CanonStands }
     ensures spelling { OneSpelling }
     ensures bounded { CanonBounded }

@@ -10,4 +10,5 @@ pub returns-in-Ok : goal.returns-in-Ok
 returns-in-Ok g c =
     let image = c.args.image.now in
     let wanted = found_look image _ _ c.args.self.now _ c.as_str.ensures c.as_str-2.ensures c.in-Ok.ensures.value in
-    answered image (IsLooked image c.args.self.now) _ _ (sym c.in-Ok.ensures.error) wanted c.tell.ensures.text c.tell.ensures.cause c.status_of.ensures
+    answered image (IsLooked image c.args.self.now) _ _ (sym c.in-Ok.ensures.error) wanted
+    c.tell_found.ensures.text c.tell_found.ensures.cause c.status_of.ensures
