@@ -1,0 +1,12 @@
+mod Common
+mod Keys
+mod Sizes
+mod Answered
+mod Apart
+mod Found
+mod Parsed
+mod Placements
+mod Refusals
+mod OneTable
+mod Thawed
+mod Told

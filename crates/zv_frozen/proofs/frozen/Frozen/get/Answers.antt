@@ -1,0 +1,9 @@
+use Rattle.zv_frozen.proofs.Common.{◌∙◌, ap, found, key_hashed, key_order}
+use Rattle.zv_frozen.proofs.Found.{value_short}
+use Rattle.zv_frozen.proofs.frozen.Frozen.get.Goals as goal
+
+pub returns : goal.returns
+returns c =
+    let t = c.self.inside.table in
+    rw (← c.self.view_is)
+    (c.get.ensures ∙ ap (found key_order key_hashed t) c.in_ok-key.ensures.1 ∙ value_short t c.args.key0.now c.args.key1.now c.in_ok-key.ensures.0)
