@@ -10,6 +10,8 @@ mod devices;
 #[cfg(test)]
 mod edit;
 #[cfg(test)]
+mod frozen;
+#[cfg(test)]
 mod heads;
 #[cfg(test)]
 mod large;

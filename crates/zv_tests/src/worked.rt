@@ -1,6 +1,7 @@
 // Worked inputs, given to the program in pieces of several sizes.
 use crate::cases::{Case, cases, head_cases};
 use crate::changes::changes;
+use crate::frozen::frozen;
 use crate::layers::layers;
 use crate::locales::locales;
 use crate::looks::looks;
@@ -101,6 +102,11 @@ fn each_look_up_is_answered(rt: HostRuntime) -> Result<(), Fail> {
 #[test]
 fn each_stack_of_layers_is_answered(rt: HostRuntime) -> Result<(), Fail> {
     try_cases(&rt, rt.alloc(), layers())
+}
+
+#[test]
+fn each_frozen_image_is_answered(rt: HostRuntime) -> Result<(), Fail> {
+    try_cases(&rt, rt.alloc(), frozen())
 }
 
 #[test]

@@ -1,12 +1,13 @@
 // The forms of a command line.
 ghost use Rattle.std.specs.Prelude.{◌≡◌, IfOk, IsTrue, MatchOption, None, OnErr, Some, codes};
 ghost use Rattle.zv_input.specs.Input.{three_words, two_words};
-ghost use Rattle.zv_tool.specs.Forms.{form_of, is_word, look_keys, look_of, make_of, names_form};
+ghost use Rattle.zv_tool.specs.Forms.{form_of, is_word, keyed_of, make_of, names_form, two_keys};
 
 use crate::words::Words;
 use std::alloc::Global;
 use zv_edit::Look;
-use zv_input::{read_key, read_number};
+use zv_frozen::Ask;
+use zv_input::{KeyText, read_key, read_number};
 use zv_make::MAX_PUTS;
 use zv_ule::NoMemory;
 
@@ -25,6 +26,12 @@ pub(crate) enum Form {
     Props,
     /// A table is made by so many puts.
     Make(u16),
+    /// The map of an image is frozen.
+    Freeze,
+    /// A pair of keys is looked up in a frozen image.
+    Ask(Ask),
+    /// A frozen image is thawed.
+    Thaw,
 }
 
 // Whether the words are this one.
@@ -57,31 +64,39 @@ fn three_words(words: &Words) -> Option<(&str, &str, &str)>
     Some((words.get(0)?, words.get(1)?, words.get(2)?))
 }
 
-// The look-up of the keys that two words are.
-fn read_keys(alloc: Global, a: &str, b: &str) -> Result<Option<Form>, NoMemory>
-    ensures { IfOk result (λ form. form ≡ look_keys a.now b.now) }
+// The keys that two words are.
+fn read_keys(alloc: Global, a: &str, b: &str) -> Result<Option<(KeyText, KeyText)>, NoMemory>
+    ensures { IfOk result (λ keys. keys ≡ two_keys a.now b.now) }
 {
     let Some(key0) = read_key(alloc, a.as_bytes())? else {
         return Ok(None);
     };
     match read_key(alloc, b.as_bytes())? {
-        Some(key1) => Ok(Some(Form::Look(Look { key0, key1 }))),
+        Some(key1) => Ok(Some((key0, key1))),
         None => Ok(None),
     }
 }
 
-// The form of words that are `look` and two keys.
-fn read_look(alloc: Global, words: &Words) -> Result<Option<Form>, NoMemory>
-    ensures form { IfOk result (λ form. form ≡ look_of words.now) }
+// The form of words that are `look` or `ask` and two keys.
+fn read_keyed(alloc: Global, words: &Words) -> Result<Option<Form>, NoMemory>
+    ensures form { IfOk result (λ form. form ≡ keyed_of words.now) }
     ensures named { OnErr result (IsTrue (names_form words.now)) }
 {
     let Some((word, a, b)) = three_words(words) else {
         return Ok(None);
     };
-    if word != "look" {
+    let looks = word == "look";
+    if !looks && word != "ask" {
         return Ok(None);
     }
-    read_keys(alloc, a, b)
+    let Some((key0, key1)) = read_keys(alloc, a, b)? else {
+        return Ok(None);
+    };
+    if looks {
+        Ok(Some(Form::Look(Look { key0, key1 })))
+    } else {
+        Ok(Some(Form::Ask(Ask { key0, key1 })))
+    }
 }
 
 // The form of words that are `make` and a number.
@@ -113,8 +128,14 @@ pub(crate) fn read_form(alloc: Global, words: &Words) -> Result<Option<Form>, No
     if is_word(words, "locale") {
         return Ok(Some(Form::Locale));
     }
+    if is_word(words, "freeze") {
+        return Ok(Some(Form::Freeze));
+    }
+    if is_word(words, "thaw") {
+        return Ok(Some(Form::Thaw));
+    }
     if let Some(form) = read_make(words) {
         return Ok(Some(form));
     }
-    read_look(alloc, words)
+    read_keyed(alloc, words)
 }

@@ -12,6 +12,7 @@ pub use zv_devices::{
     CountSink, Failed, MemSink, MemSource, Sink, Source, StdSink, StdSource, SteadySource,
 };
 pub use zv_edit::{Edit, Look, edit2d, laws, look2d, serve};
+pub use zv_frozen::{Ask, Freeze, FreezeError, Frozen, FrozenError, PairKey, Thaw, freeze};
 pub use zv_input::{Command, Commands, CommandsError, KeyText, MAX_COMMANDS, ValueBytes};
 pub use zv_layers::{Layers, overlay_counted, overlay_maps};
 pub use zv_locale::{Asks, Provided, Wanted, provide, provide_counted};

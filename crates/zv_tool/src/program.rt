@@ -12,6 +12,7 @@ use std::alloc::Global;
 use zv_command::{MAX_INPUT, Status, run_request, send};
 use zv_devices::{Sink, Source};
 use zv_edit::Edit;
+use zv_frozen::{Freeze, Thaw};
 use zv_layers::Layers;
 use zv_locale::Asks;
 use zv_make::make;
@@ -30,15 +31,19 @@ fn run_form<S: Source, K: Sink>(alloc: Global, form: Form, source: &mut S, sink:
         Form::Locale => run_request(alloc, Asks::new(alloc), source, sink),
         Form::Props => run_request(alloc, TableSteps::new(alloc), source, sink),
         Form::Make(count) => make(alloc, count, sink),
+        Form::Freeze => run_request(alloc, Freeze, source, sink),
+        Form::Ask(ask) => run_request(alloc, ask, source, sink),
+        Form::Thaw => run_request(alloc, Thaw, source, sink),
     }
 }
 
 /// All that the program does: reads the source to its end, answers to the sink, and says how it
 /// ended.
 ///
-/// The command forms are `edit`, `look F F`, `layers`, `locale`, `props` and `make N`. Line 1 of
-/// the input is `x` and the bytes of an image, or of a table for `props`, in hex. For `look` it is
-/// the only line, and the answer is `some xV` or `none`, for the pair of keys that the fields are.
+/// The command forms are `edit`, `look F F`, `layers`, `locale`, `props`, `make N`, `freeze`,
+/// `ask F F` and `thaw`. Line 1 of the input is `x` and the bytes of an image in hex, or of a table
+/// for `props`, or of a frozen image for `ask` and `thaw`. For `look` and the last three it is the
+/// only line. `look` is answered `some xV` or `none`, for the pair of keys that the fields are.
 /// For `edit` each further line is a command, which runs on the map that those before it left:
 ///
 /// - `get K K` looks up a pair of keys, and is answered `some xV`, or `none`;
@@ -72,6 +77,13 @@ fn run_form<S: Source, K: Sink>(alloc: Global, form: Form, source: &mut S, sink:
 /// For `make`, N is a number up to 4,000, and no input is read: N puts make a map of none, and the
 /// answer is `rows R pairs P bytes B sum S`, with the length of its image and the sum of the
 /// image's bytes.
+///
+/// `freeze` is answered `frozen xZ`, with the frozen image: a hash table of the image's pairs. It
+/// is refused with `error toolarge` where the keys or the values don't fit 64 KB, or with
+/// `error noplace B` where no displacement sends the keys of bucket B to free slots. `ask` is
+/// answered as `look` is, of a frozen image, and `thaw` `image xI`, with the canonical image. Bytes
+/// that are no frozen image are refused with `error` and the word of their first fault: `frame`,
+/// `part`, `count`, `key S` with the slot of a key that is not that of two texts, or `lies`.
 ///
 /// A field F is `x` and an even number of hex digits in either case; a key K is a field that is
 /// UTF-8, and so are the fields of `look`. One space stands between words. Lines end in LF, which
