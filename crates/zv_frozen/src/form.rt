@@ -183,7 +183,7 @@ fn thaw_ready(alloc: Global, frozen: &Frozen<'_>) -> Result<ImageMap<'static>, M
     Ok(map)
 }
 
-// Answers for a frozen image. Of an input within the limit nothing is too large.
+// Answers for a frozen image. A map that is refused is told as a want of memory.
 fn answer_thawed<K: Sink>(alloc: Global, bytes: &[u8], frozen: &Frozen<'_>, sink: &mut K) -> Status
     requires sound { frozen_fault bytes.now ≡ None }
     requires table { IsReadAs bytes.now frozen.now }
