@@ -1,11 +1,9 @@
 pub mod Common
 pub mod Proper
-pub mod Answers
-pub mod Joins
+pub mod Runs
 pub mod Steps
 pub mod Lines
 pub mod Sets
 pub mod Spliced
 pub mod Changes
-pub mod Unique
 pub mod Searches

@@ -17,7 +17,7 @@ fn first_bad(sets: &[(u32, u32, u16)]) -> Option<usize>
 }
 
 /// The table that ranges leave, one set after another.
-#[tactic(auto, using(crate::proofs::Sets::all_good))]
+#[tactic(auto, using(crate::proofs::Sets::good_sets))]
 fn build_good(alloc: Global, sets: &[(u32, u32, u16)]) -> Result<Props<'static>, NoMemory>
     requires { position is_bad sets.now ≡ None }
     ensures { IfOk result (λ t. AnswerAlike t (reverse sets.now)) }

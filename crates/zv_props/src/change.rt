@@ -12,8 +12,6 @@ use crate::few_rows::FewRows;
 use crate::lookup::place_from;
 use crate::table::{Props, Row};
 use std::alloc::Global;
-use std::marker::Brand;
-use std::sync::ledger::Blank;
 use zv_fixed::ZeroSlice;
 use zv_ule::NoMemory;
 
@@ -75,15 +73,11 @@ fn place_before(rows: ZeroSlice<'_, Row>, c: u32) -> usize
     requires { IsProper (rows_of rows.bytes.now) }
     ensures { IsPlace (rows_of rows.entry.bytes.now) c result }
 {
-    if c == 0 {
-        0
-    } else {
-        place_from::<Brand>(rows, c - 1, Blank::new(1))
-    }
+    if c == 0 { 0 } else { place_from(rows, c - 1) }
 }
 
 /// Where the row at a place begins, or where all of them end.
-#[tactic(auto, using(crate::proofs::Spliced::place_within))]
+#[tactic(auto, using(crate::proofs::Spliced::row_starts))]
 fn offset(bytes: &[u8], place: usize) -> usize
     requires { place ≤ length (rows_of bytes.now) }
     ensures offset { result ≡ place * 10 }
@@ -94,7 +88,7 @@ fn offset(bytes: &[u8], place: usize) -> usize
 }
 
 /// Puts rows in place of those from one place up to another.
-#[tactic(auto, using(crate::proofs::Spliced::spliced))]
+#[tactic(auto, using(crate::proofs::Spliced::splices))]
 fn put_rows(
     bytes: &mut TableBytes<'_>,
     alloc: Global,
@@ -119,6 +113,27 @@ fn put_rows(
     Ok(())
 }
 
+/// Gives a range of code points one value, which may be 0.
+#[tactic(auto, using(crate::proofs::Changes::changes))]
+fn set_rows(bytes: &mut TableBytes<'_>, alloc: Global, range: Row) -> Result<(), NoMemory>
+    requires spells { list_fault (bytes_in bytes.old) ≡ None }
+    requires proper { IsProper (rows_of (bytes_in bytes.old)) }
+    requires order { range.0 ≤ range.1 }
+    requires top { range.1 ≤ max_code_point }
+    ensures ok { OnOk result
+        (AnswerAlike (rows_of (bytes_in bytes.new)) (range ∷ rows_of (bytes_in bytes.old))) }
+    ensures spells { list_fault (bytes_in bytes.new) ≡ None }
+    ensures proper { IsProper (rows_of (bytes_in bytes.new)) }
+    ensures err { OnErr result (bytes_in bytes.new ≡ bytes_in bytes.old) }
+{
+    let rows = ZeroSlice::of_valid(bytes.bytes());
+    let low = place_before(rows, range.0);
+    let high = place_before(rows, range.1 + 2);
+    let few = middle_rows(rows, low, high, range);
+    put_rows(bytes, alloc, low.saturating_sub(1), high, &few)?;
+    Ok(())
+}
+
 impl Props<'_> {
     /// Gives all code points from the first to the last one value, which may be 0. After `NoMemory`
     /// the table is as it was.
@@ -133,11 +148,6 @@ impl Props<'_> {
         ensures proper { IsProper self.new }
         ensures err { OnErr result (self.new ≡ self.old) }
     {
-        let rows = self.rows();
-        let low = place_before(rows, first);
-        let high = place_before(rows, last + 2);
-        let few = middle_rows(rows, low, high, (first, last, value));
-        put_rows(&mut self.bytes, alloc, low.saturating_sub(1), high, &few)?;
-        Ok(())
+        set_rows(&mut self.bytes, alloc, (first, last, value))
     }
 }

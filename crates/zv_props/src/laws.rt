@@ -8,7 +8,7 @@ ghost use Rattle.zv_props.specs.Tables.{AnswerAlike, IsProper};
 use crate::table::Props;
 
 /// A table is proper, and tables that answer alike for every code point are the same bytes.
-#[tactic(auto, using(crate::proofs::Unique::one_table))]
+#[tactic(auto, using(crate::proofs::Runs::one_table))]
 pub fn one_table(first: &Props<'_>, second: &Props<'_>)
     ensures proper { IsProper first.now }
     ensures rows { AnswerAlike first.now second.now → first.now ≡ second.now }

@@ -175,6 +175,7 @@ impl Request for TableSteps {
         Ok(true)
     }
 
+    #[tactic(auto, unfolding(crate::specs::Requests::props_due))]
     fn answer<K: Sink>(&self, alloc: Global, first: &[u8], sink: &mut K) -> Status {
         let table = match Props::parse(first) {
             Ok(table) => table,
