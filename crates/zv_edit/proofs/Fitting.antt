@@ -1,5 +1,5 @@
 -- Each value of an input within the limit fits.
-use Rattle.zv_edit.proofs.Common.{◌≡◌, ℕ, ◌+◌, ◌≤◌, ◌<◌, arith, List, [], ◌∷◌, length, Some, Rows, Command, Get, Put, Del, Row, next}
+use Rattle.zv_edit.proofs.Common.{◌≡◌, ℕ, ◌+◌, ◌≤◌, ◌<◌, arith, List, [], ◌∷◌, length, Rows, Command, Get, Put, Del, Row, next}
 use Rattle.zv_edit.proofs.Common.{reply, replies}
 use Rattle.zv_edit.proofs.Common.{AllByRecursion, command_size, by_bytes, too_large, with_command}
 use Rattle.zv_edit.proofs.Common.{NeverTooLarge}
@@ -10,7 +10,6 @@ use Rattle.std.proofs.lemmas.List.Sums.{sum_by-cons, sum_by_push}
 use Rattle.std.specs.Prelude.{IfSome}
 use Rattle.zv_input.proofs.Fields.{line_command}
 use Rattle.zv_input.specs.Commands.{total_size}
-use Rattle.zv_input.specs.Input.{command_of_words, words}
 use Rattle.zv_map2d.proofs.Well.{del_well, put_well}
 use Rattle.zv_map2d.specs.Rows.{IsWell}
 use Rattle.zv_map2d_laws.proofs.Sizes.{del_shrinks, image_holds, put_grows, small_fits}
@@ -48,10 +47,6 @@ all_fit m (c ∷ cs) well small =
 
 command_grows : (cs : List Command) (line : List ℕ) → IfSome (with_command cs line) (λ all. total_size all ≤ total_size cs + length line)
 command_grows cs line = let one = line_command line in let pushed = λ (c : Command). sum_by_push command_size cs c in grind arith
-
--- a line's command is no larger than the line
-pub line_fits : (line : List ℕ) (c : Command) → Some c ≡ command_of_words (words line) → command_size c ≤ length line
-line_fits line c is = let size = line_command line in grind arith
 
 pub never_too_large : NeverTooLarge
 never_too_large input image cs m short is stands =

@@ -6,13 +6,13 @@ ghost use Rattle.zv_map2d.specs.Image.{fault};
 ghost use Rattle.zv_edit.specs.Answers.{IsAnswer};
 ghost use Rattle.zv_devices.specs.Devices.{Rose, Written, CutShort};
 
-use crate::serving::serve;
+use crate::serving::{serve, serve_all};
 use std::alloc::Global;
 use std::marker::Model;
 use zv_command::{Request, Status};
 use zv_devices::{Failed, Sink};
-use zv_image::{refuse, reserve};
-use zv_input::{Commands, read_command};
+use zv_image::{refuse, reserve, status_of};
+use zv_input::{CommandLines, Commands};
 use zv_map2d::{EditError, parse_image};
 use zv_ule::NoMemory;
 
@@ -46,7 +46,7 @@ pub fn edit2d<K: Sink>(
         → CutShort (IsAnswer image.now commands.now) (K.taken sink.old) (K.taken sink.new) }
 {
     let mut map = parse_image(image)?;
-    if reserve(alloc, &mut map, commands).is_err() {
+    if reserve(alloc, &mut map, commands.put_sizes()).is_err() {
         return Err(EditError::Memory);
     }
     match serve(&mut map, commands, sink) {
@@ -58,7 +58,7 @@ pub fn edit2d<K: Sink>(
 /// Commands, each of which is a line.
 #[derive(Drop)]
 pub struct Edit {
-    commands: Commands,
+    commands: CommandLines,
 }
 
 impl Model for Edit {
@@ -78,7 +78,7 @@ impl Edit {
         ensures { result ≡ [] }
     {
         Edit {
-            commands: Commands::new(alloc),
+            commands: CommandLines::new(alloc),
         }
     }
 }
@@ -93,21 +93,19 @@ impl Request for Edit {
 
     ghost due = { edit_due };
 
-    #[tactic(auto, using(crate::proofs::Fitting::line_fits))]
-    fn add_line(&mut self, alloc: Global, line: &[u8]) -> Result<bool, NoMemory> {
-        let Some(command) = read_command(alloc, line)? else {
-            return Ok(false);
-        };
-        self.commands.add(command)?;
-        Ok(true)
+    fn add_line(&mut self, _alloc: Global, line: &[u8]) -> Result<bool, NoMemory> {
+        self.commands.add_line(line)
     }
 
+    #[tactic(auto, using(zv_map2d_laws::proofs::Standing::few_pairs))]
     fn answer<K: Sink>(&self, alloc: Global, image: &[u8], sink: &mut K) -> Status {
-        match edit2d(alloc, image, &self.commands, sink) {
-            Ok(()) => Status::Done,
-            Err(EditError::Memory) => Status::Memory,
-            Err(EditError::Write) => Status::WriteFault,
-            Err(cause) => refuse(sink, cause),
+        let mut map = match parse_image(image) {
+            Ok(map) => map,
+            Err(cause) => return refuse(sink, cause),
+        };
+        if reserve(alloc, &mut map, self.commands.put_sizes()).is_err() {
+            return Status::Memory;
         }
+        status_of(serve_all(&mut map, self.commands.iter(), sink))
     }
 }

@@ -11,12 +11,13 @@ ghost use Rattle.zv_edit.specs.Answers.{reply, next};
 ghost use Rattle.zv_edit.specs.Output.{added, old, pair_text, text};
 ghost use Rattle.zv_image.specs.Room.{HasRoomOf, SpendsOf};
 ghost use Rattle.zv_input.specs.Sizes.{sizes_of};
+ghost use Rattle.zv_input.specs.Views.{as_command};
 ghost use Rattle.zv_command.specs.Sending.{Sends};
 
 use zv_command::{Output, write_found};
 use zv_devices::{Failed, Sink};
 use zv_image::{discard, find_place, fits, plain, put_fitting, value_at};
-use zv_input::{Command, KeyText, ValueBytes};
+use zv_input::{Command, CommandRef};
 use zv_map::FlexULE;
 use zv_map2d::{ImageMap, Iter1, Place};
 use zv_ule::{SliceULE, StrULE};
@@ -49,13 +50,13 @@ fn write_pairs<K: Sink>(
 fn get<K: Sink>(
     out: &mut Output<'_, K>,
     map: &ImageMap<'_>,
-    key0: &KeyText,
-    key1: &KeyText,
+    key0: &str,
+    key1: &str,
 ) -> Result<(), Failed>
     ensures { Sends K.taken K.faults out.old out.new result
         (text (reply map.now.rows (Command.Get key0.now key1.now))) }
 {
-    let found = plain(map.get_2d(&key0.as_str(), &key1.as_str()));
+    let found = plain(map.get_2d(&key0, &key1));
     write_found(out, found, b"some x", b"none\n")
 }
 
@@ -66,7 +67,7 @@ fn put_at<K: Sink>(
     place: Place,
     key0: &str,
     key1: &str,
-    value: &ValueBytes,
+    value: &[u8],
 ) -> Result<(), Failed>
     requires place { IsPlace by_bytes by_bytes map.old.rows key0.now key1.now place }
     requires fits { fits_texts map.old.rows key0.now key1.now value.now ≡ true }
@@ -88,9 +89,9 @@ fn put_at<K: Sink>(
 fn put<K: Sink>(
     out: &mut Output<'_, K>,
     map: &mut ImageMap<'_>,
-    key0: &KeyText,
-    key1: &KeyText,
-    value: &ValueBytes,
+    key0: &str,
+    key1: &str,
+    value: &[u8],
 ) -> Result<(), Failed>
     requires { HasRoomOf (sizes_of (Command.Put key0.now key1.now value.now)) map.old }
     ensures text { Sends K.taken K.faults out.old out.new result
@@ -101,7 +102,6 @@ fn put<K: Sink>(
     ensures spends { SpendsOf (sizes_of (Command.Put key0.now key1.now value.now))
         map.old map.new }
 {
-    let (key0, key1) = (key0.as_str(), key1.as_str());
     let place = find_place(map, key0, key1);
     if !fits(map, place, key0, key1, value) {
         return out.write(b"toolarge\n");
@@ -113,8 +113,8 @@ fn put<K: Sink>(
 fn del<K: Sink>(
     out: &mut Output<'_, K>,
     map: &mut ImageMap<'_>,
-    key0: &KeyText,
-    key1: &KeyText,
+    key0: &str,
+    key1: &str,
 ) -> Result<(), Failed>
     requires { HasRoomOf (sizes_of (Command.Del key0.now key1.now)) map.old }
     ensures text { Sends K.taken K.faults out.old out.new result
@@ -124,7 +124,6 @@ fn del<K: Sink>(
     ensures same { OnErr result (map.new.rows ≡ map.old.rows) }
     ensures spends { SpendsOf (sizes_of (Command.Del key0.now key1.now)) map.old map.new }
 {
-    let (key0, key1) = (key0.as_str(), key1.as_str());
     let place = find_place(map, key0, key1);
     write_found(out, value_at(map, place, key0, key1), b"old x", b"none\n")?;
     discard(map, place, key0, key1);
@@ -133,11 +132,11 @@ fn del<K: Sink>(
 
 // Replies with a row.
 #[tactic(auto, using(zv_command::proofs::Sending::sends_more))]
-fn row<K: Sink>(out: &mut Output<'_, K>, map: &ImageMap<'_>, key0: &KeyText) -> Result<(), Failed>
+fn row<K: Sink>(out: &mut Output<'_, K>, map: &ImageMap<'_>, key0: &str) -> Result<(), Failed>
     ensures { Sends K.taken K.faults out.old out.new result
         (text (reply map.now.rows (Command.Row key0.now))) }
 {
-    let Some(row) = map.get0(&key0.as_str()) else {
+    let Some(row) = map.get0(&key0) else {
         return out.write(b"none\n");
     };
     out.write(b"row")?;
@@ -150,19 +149,19 @@ fn row<K: Sink>(out: &mut Output<'_, K>, map: &ImageMap<'_>, key0: &KeyText) -> 
 pub(crate) fn run_command<K: Sink>(
     out: &mut Output<'_, K>,
     map: &mut ImageMap<'_>,
-    command: &Command,
+    command: CommandRef<'_>,
 ) -> Result<(), Failed>
-    requires { HasRoomOf (sizes_of command.now) map.old }
+    requires { HasRoomOf (sizes_of (as_command command)) map.old }
     ensures text { Sends K.taken K.faults out.old out.new result
-        (text (reply map.old.rows command.now)) }
-    ensures left { OnOk result (map.new.rows ≡ next map.old.rows command.now) }
+        (text (reply map.old.rows (as_command command.entry))) }
+    ensures left { OnOk result (map.new.rows ≡ next map.old.rows (as_command command.entry)) }
     ensures same { OnErr result (map.new.rows ≡ map.old.rows) }
-    ensures spends { SpendsOf (sizes_of command.now) map.old map.new }
+    ensures spends { SpendsOf (sizes_of (as_command command.entry)) map.old map.new }
 {
     match command {
-        Command::Get { key0, key1 } => get(out, map, key0, key1),
-        Command::Put { key0, key1, value } => put(out, map, key0, key1, value),
-        Command::Del { key0, key1 } => del(out, map, key0, key1),
-        Command::Row { key0 } => row(out, map, key0),
+        CommandRef::Get { key0, key1 } => get(out, map, key0, key1),
+        CommandRef::Put { key0, key1, value } => put(out, map, key0, key1, value),
+        CommandRef::Del { key0, key1 } => del(out, map, key0, key1),
+        CommandRef::Row { key0 } => row(out, map, key0),
     }
 }

@@ -11,24 +11,24 @@ use crate::replies::run_command;
 use zv_command::Output;
 use zv_devices::{Failed, Sink};
 use zv_image::write_image;
-use zv_input::Commands;
+use zv_input::{CommandIter, Commands};
 use zv_map2d::{ImageMap, wide_lists};
 
 // Runs commands, writes their replies, and sends them.
 fn run_commands<K: Sink>(
     out: &mut Output<'_, K>,
     map: &mut ImageMap<'_>,
-    commands: &Commands,
+    commands: CommandIter<'_>,
 ) -> Result<(), Failed>
-    requires { HasRoomOf (put_sizes commands.now) map.old }
+    requires { HasRoomOf (put_sizes commands) map.old }
     ensures text { Sends K.taken K.faults out.old out.new result
-        (reply_lines map.old.rows commands.now) }
-    ensures ok { OnOk result (map.new.rows ≡ last map.old.rows commands.now) }
+        (reply_lines map.old.rows commands.entry) }
+    ensures ok { OnOk result (map.new.rows ≡ last map.old.rows commands.entry) }
     ensures ready { OnOk result (IsReady map.new) }
     ensures failed { OnErr result ((n : ℕ)
-        × (map.new.rows ≡ last map.old.rows (take n commands.now))) }
+        × (map.new.rows ≡ last map.old.rows (take n commands.entry))) }
 {
-    for command in commands.as_slice() {
+    for command in commands {
         run_command(out, map, command)?;
     }
     out.send()
@@ -39,19 +39,36 @@ fn run_commands<K: Sink>(
 fn write_answer<K: Sink>(
     out: &mut Output<'_, K>,
     map: &mut ImageMap<'_>,
-    commands: &Commands,
+    commands: CommandIter<'_>,
 ) -> Result<(), Failed>
-    requires { HasRoomOf (put_sizes commands.now) map.old }
+    requires { HasRoomOf (put_sizes commands) map.old }
     ensures text { Sends K.taken K.faults out.old out.new result
-        (answers map.old.rows commands.now) }
+        (answers map.old.rows commands.entry) }
     ensures sent { OnOk result (out.new.piece ≡ []) }
-    ensures ok { OnOk result (map.new.rows ≡ last map.old.rows commands.now) }
+    ensures ok { OnOk result (map.new.rows ≡ last map.old.rows commands.entry) }
     ensures failed { OnErr result ((n : ℕ)
-        × (map.new.rows ≡ last map.old.rows (take n commands.now))) }
+        × (map.new.rows ≡ last map.old.rows (take n commands.entry))) }
 {
     run_commands(out, map, commands)?;
     map.settle();
     write_image(out, wide_lists(map), map.canon_parts())
+}
+
+/// As [`serve`], for commands that are left to come.
+pub(crate) fn serve_all<K: Sink>(
+    map: &mut ImageMap<'_>,
+    commands: CommandIter<'_>,
+    sink: &mut K,
+) -> Result<(), Failed>
+    requires room { HasRoomOf (put_sizes commands) map.old }
+    ensures text { Takes (K.taken sink.old) (K.taken sink.new) result
+        (answers map.old.rows commands.entry) }
+    ensures ok { OnOk result (map.new.rows ≡ last map.old.rows commands.entry) }
+    ensures failed { OnErr result ((n : ℕ)
+        × (map.new.rows ≡ last map.old.rows (take n commands.entry))) }
+    ensures cause { HasCause (K.faults sink.old) (K.faults sink.new) result }
+{
+    write_answer(&mut Output::new(sink), map, commands)
 }
 
 /// Runs commands on the map of an image, in order, and writes the reply of each as it runs and then
@@ -78,5 +95,5 @@ pub fn serve<K: Sink>(
         × (map.new.rows ≡ last map.old.rows (take n commands.now))) }
     ensures cause { HasCause (K.faults sink.old) (K.faults sink.new) result }
 {
-    write_answer(&mut Output::new(sink), map, commands)
+    serve_all(map, commands.iter(), sink)
 }

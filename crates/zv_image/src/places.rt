@@ -9,7 +9,7 @@ ghost use Rattle.zv_ule.specs.Views.{element_of};
 ghost use Rattle.zv_image.specs.Room.{HasRoomOf, SpendsOf};
 ghost use Rattle.zv_input.specs.Sizes.{sizes_of};
 
-use zv_input::{Command, ValueBytes};
+use zv_input::Command;
 use zv_map::FlexULE;
 use zv_map2d::{ImageMap, Place};
 use zv_ule::{SliceULE, VarRef};
@@ -27,10 +27,10 @@ pub fn plain<'m>(
 }
 
 /// A value as the map of an image takes it.
-fn value_for(value: &ValueBytes) -> VarRef<'_, FlexULE<SliceULE<u8>>>
+fn value_for(value: &[u8]) -> VarRef<'_, FlexULE<SliceULE<u8>>>
     ensures { element_of result ≡ value.now }
 {
-    FlexULE::of_plain(VarRef::of_bytes(value.as_bytes()))
+    FlexULE::of_plain(VarRef::of_bytes(value))
 }
 
 /// Where a pair of keys is, or would be.
@@ -54,7 +54,7 @@ pub fn value_at<'m>(
 }
 
 /// Whether a value for a pair of keys fits at its place.
-pub fn fits(map: &ImageMap<'_>, place: Place, key0: &str, key1: &str, value: &ValueBytes) -> bool
+pub fn fits(map: &ImageMap<'_>, place: Place, key0: &str, key1: &str, value: &[u8]) -> bool
     requires { IsPlace by_bytes by_bytes map.now.rows key0.now key1.now place }
     ensures { result ≡ fits_texts map.now.rows key0.now key1.now value.now }
 {
@@ -63,7 +63,7 @@ pub fn fits(map: &ImageMap<'_>, place: Place, key0: &str, key1: &str, value: &Va
 }
 
 /// Gives a pair of keys a value, which fits, at its place.
-pub fn put_fitting(map: &mut ImageMap<'_>, place: Place, key0: &str, key1: &str, value: &ValueBytes)
+pub fn put_fitting(map: &mut ImageMap<'_>, place: Place, key0: &str, key1: &str, value: &[u8])
     requires place { IsPlace by_bytes by_bytes map.old.rows key0.now key1.now place }
     requires fits { fits_texts map.old.rows key0.now key1.now value.now ≡ true }
     requires room { HasRoomOf (sizes_of (Command.Put key0.now key1.now value.now)) map.old }

@@ -2,6 +2,9 @@ pub mod Commands
 pub mod Compact
 pub mod Digits
 pub mod Input
+pub mod Lines
 pub mod Numbers
+pub mod Shapes
 pub mod Sizes
+pub mod Views
 pub mod Words

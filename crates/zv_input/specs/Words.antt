@@ -1,5 +1,5 @@
 -- The words of a line, one after another.
-use Rattle.std.specs.Prelude.{◌≡◌, ℕ, ◌==◌, if◌then◌else◌, false, List, [], ◌∷◌}
+use Rattle.std.specs.Prelude.{◌≡◌, ℕ, ◌+◌, ◌==◌, length, if◌then◌else◌, false, List, [], ◌∷◌}
 use Rattle.std.specs.List.{All}
 use Rattle.std.specs.declared.option.Option.{Option}
 use Rattle.std.specs.declared.option.Option.TheVariants.{Some, None}
@@ -17,6 +17,11 @@ after_mark (mark ∷ digits) = if mark == 120 then Some digits else None
 abbrev pub words_after : Option (List ℕ) → List (List ℕ)
 words_after None = []
 words_after (Some text) = words text
+
+-- how long the text after a word is, with the space before it
+abbrev pub text_size : Option (List ℕ) → ℕ
+text_size None = 0
+text_size (Some text) = 1 + length text
 
 -- what the first word is read as, and the words that follow it
 abbrev pub first_of : {A : Type 0} → (List ℕ → Option A) → List (List ℕ)

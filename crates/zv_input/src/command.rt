@@ -35,6 +35,31 @@ pub enum Command {
     },
 }
 
+/// A command that is looked at where it stands.
+#[derive(Clone, Copy)]
+pub enum CommandRef<'a> {
+    /// As [`Command::Get`].
+    Get {
+        key0: &'a str,
+        key1: &'a str,
+    },
+    /// As [`Command::Put`].
+    Put {
+        key0: &'a str,
+        key1: &'a str,
+        value: &'a [u8],
+    },
+    /// As [`Command::Del`].
+    Del {
+        key0: &'a str,
+        key1: &'a str,
+    },
+    /// As [`Command::Row`].
+    Row {
+        key0: &'a str,
+    },
+}
+
 // Three fields of 16 bytes, and which command it is.
 const _: () = prove!(size_of::<Command>() == 56);
 
@@ -55,4 +80,33 @@ pub(crate) fn command_size(command: &Command) -> usize
         Command::Row { key0 } => key0.len(),
     };
     fields.saturating_add(1)
+}
+
+impl Command {
+    ghost use Rattle.std.specs.Prelude.{◌≡◌};
+    ghost use Rattle.zv_input.specs.Views.{as_command};
+
+    /// A look at the command.
+    pub(crate) fn as_ref(&self) -> CommandRef<'_>
+        ensures { as_command result ≡ self.now }
+    {
+        match self {
+            Command::Get { key0, key1 } => CommandRef::Get {
+                key0: key0.as_str(),
+                key1: key1.as_str(),
+            },
+            Command::Put { key0, key1, value } => CommandRef::Put {
+                key0: key0.as_str(),
+                key1: key1.as_str(),
+                value: value.as_bytes(),
+            },
+            Command::Del { key0, key1 } => CommandRef::Del {
+                key0: key0.as_str(),
+                key1: key1.as_str(),
+            },
+            Command::Row { key0 } => CommandRef::Row {
+                key0: key0.as_str(),
+            },
+        }
+    }
 }

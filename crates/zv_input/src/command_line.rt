@@ -1,93 +1,131 @@
 // Commands as lines.
-ghost use Rattle.std.specs.Prelude.{◌≡◌, IfOk};
-ghost use Rattle.std.specs.Option.{option_copied};
+ghost use Rattle.std.specs.Prelude.{◌≡◌, ◌+◌, ◌*◌, ◌≤◌, ◌<◌, ◌^◌, IfSome, drop, length, take};
+ghost use Rattle.std.specs.Option.{option_copied, option_map};
 ghost use Rattle.zv_input.specs.Input.{words, get, put, del, row, command_of_words};
-ghost use Rattle.zv_input.specs.Words.{if_last, words_after};
+ghost use Rattle.zv_input.specs.Shapes.{command_at, shape_size};
+ghost use Rattle.zv_input.specs.Words.{text_size, words_after};
 
-use crate::command::Command;
-use crate::field::{cut_key, cut_keys, cut_value};
+use crate::field::{decode_key, decode_keys, decode_value};
 use crate::lines::cut_word;
-use std::alloc::Global;
-use zv_ule::NoMemory;
-
-// A command, where no word follows its fields. (This and the next four are inlined, so that a
-// command is put together where it is kept.)
-#[tactic(auto, using(crate::proofs::Fields::not_last))]
-#[inline(always)]
-fn if_last(command: Command, rest: Option<&[u8]>) -> Option<Command>
-    ensures { result ≡ if_last command (words_after (option_copied rest.entry)) }
-{
-    match rest {
-        None => Some(command),
-        Some(_) => None,
-    }
-}
+use crate::shape::Shape;
 
 // `get K K`: a look-up.
-#[tactic(auto, using(crate::proofs::Fields::get_by_keys))]
+#[tactic(auto, using(crate::proofs::Fields::get_by_keys, crate::proofs::Fields::not_last))]
 #[inline(always)]
-fn read_get(alloc: Global, fields: Option<&[u8]>) -> Result<Option<Command>, NoMemory>
-    ensures { IfOk result (λ command. command ≡ get (words_after (option_copied fields.entry))) }
+fn decode_get(fields: Option<&[u8]>, place: &mut [u8]) -> Option<Shape>
+    requires room { text_size (option_copied fields) ≤ 2 * length place.old + 2 }
+    requires small { length place.old < 2 ^ 32 }
+    ensures command { option_map (λ s. command_at s place.new) result
+        ≡ get (words_after (option_copied fields.entry)) }
+    ensures within { IfSome result (λ s. shape_size s ≤ length place.new) }
 {
-    let Some((key0, key1, rest)) = cut_keys(alloc, fields)? else {
-        return Ok(None);
-    };
-    Ok(if_last(Command::Get { key0, key1 }, rest))
+    match decode_keys(fields, place)? {
+        (key0, key1, None) => Some(Shape::Get {
+            key0: key0 as u32,
+            key1: key1 as u32,
+        }),
+        _ => None,
+    }
 }
 
 // `put K K F`: a value for a pair.
-#[tactic(auto, using(crate::proofs::Fields::put_by_keys))]
+#[tactic(auto, using(crate::proofs::Shapes::puts_by_keys))]
 #[inline(always)]
-fn read_put(alloc: Global, fields: Option<&[u8]>) -> Result<Option<Command>, NoMemory>
-    ensures { IfOk result (λ command. command ≡ put (words_after (option_copied fields.entry))) }
+fn decode_put(fields: Option<&[u8]>, place: &mut [u8]) -> Option<Shape>
+    requires room { text_size (option_copied fields) ≤ 2 * length place.old + 2 }
+    requires small { length place.old < 2 ^ 32 }
+    ensures command { option_map (λ s. command_at s place.new) result
+        ≡ put (words_after (option_copied fields.entry)) }
+    ensures within { IfSome result (λ s. shape_size s ≤ length place.new) }
 {
-    let Some((key0, key1, rest)) = cut_keys(alloc, fields)? else {
-        return Ok(None);
-    };
-    let Some((value, rest)) = cut_value(alloc, rest)? else {
-        return Ok(None);
-    };
-    Ok(if_last(Command::Put { key0, key1, value }, rest))
+    let (key0, key1, rest) = decode_keys(fields, place)?;
+    match decode_value(rest, place, key0 + key1)? {
+        (value, None) => Some(Shape::Put {
+            key0: key0 as u32,
+            key1: key1 as u32,
+            value: value as u32,
+        }),
+        _ => None,
+    }
 }
 
 // `del K K`: a removal.
-#[tactic(auto, using(crate::proofs::Fields::del_by_keys))]
+#[tactic(auto, using(crate::proofs::Fields::del_by_keys, crate::proofs::Fields::not_last))]
 #[inline(always)]
-fn read_del(alloc: Global, fields: Option<&[u8]>) -> Result<Option<Command>, NoMemory>
-    ensures { IfOk result (λ command. command ≡ del (words_after (option_copied fields.entry))) }
+fn decode_del(fields: Option<&[u8]>, place: &mut [u8]) -> Option<Shape>
+    requires room { text_size (option_copied fields) ≤ 2 * length place.old + 2 }
+    requires small { length place.old < 2 ^ 32 }
+    ensures command { option_map (λ s. command_at s place.new) result
+        ≡ del (words_after (option_copied fields.entry)) }
+    ensures within { IfSome result (λ s. shape_size s ≤ length place.new) }
 {
-    let Some((key0, key1, rest)) = cut_keys(alloc, fields)? else {
-        return Ok(None);
-    };
-    Ok(if_last(Command::Del { key0, key1 }, rest))
+    match decode_keys(fields, place)? {
+        (key0, key1, None) => Some(Shape::Del {
+            key0: key0 as u32,
+            key1: key1 as u32,
+        }),
+        _ => None,
+    }
 }
 
 // `row K`: the pairs of a row.
-#[tactic(auto, using(crate::proofs::Fields::row_by_key))]
+#[tactic(auto, using(crate::proofs::Fields::row_by_key, crate::proofs::Fields::not_last))]
 #[inline(always)]
-fn read_row(alloc: Global, fields: Option<&[u8]>) -> Result<Option<Command>, NoMemory>
-    ensures { IfOk result (λ command. command ≡ row (words_after (option_copied fields.entry))) }
+fn decode_row(fields: Option<&[u8]>, place: &mut [u8]) -> Option<Shape>
+    requires room { text_size (option_copied fields) ≤ 2 * length place.old + 2 }
+    requires small { length place.old < 2 ^ 32 }
+    ensures command { option_map (λ s. command_at s place.new) result
+        ≡ row (words_after (option_copied fields.entry)) }
+    ensures within { IfSome result (λ s. shape_size s ≤ length place.new) }
 {
-    let Some((key0, rest)) = cut_key(alloc, fields)? else {
-        return Ok(None);
-    };
-    Ok(if_last(Command::Row { key0 }, rest))
+    match decode_key(fields, place)? {
+        (key0, None) => Some(Shape::Row { key0: key0 as u32 }),
+        _ => None,
+    }
 }
 
-/// The command of a line, or `None` where the line is none.
-pub fn read_command(alloc: Global, line: &[u8]) -> Result<Option<Command>, NoMemory>
-    ensures { IfOk result (λ command. command ≡ command_of_words (words line.now)) }
+// Writes the fields of a line's command, one after another, and says how long they are; `None`
+// where the line is no command.
+#[inline(always)]
+fn decode_command(line: &[u8], place: &mut [u8]) -> Option<Shape>
+    requires room { length line.now ≤ 2 * length place.old }
+    requires small { length place.old < 2 ^ 32 }
+    ensures command { option_map (λ s. command_at s place.new) result
+        ≡ command_of_words (words line.now) }
+    ensures within { IfSome result (λ s. shape_size s ≤ length place.new) }
 {
     let (name, fields) = cut_word(line);
     if name == b"get".as_slice() {
-        read_get(alloc, fields)
+        decode_get(fields, place)
     } else if name == b"put".as_slice() {
-        read_put(alloc, fields)
+        decode_put(fields, place)
     } else if name == b"del".as_slice() {
-        read_del(alloc, fields)
+        decode_del(fields, place)
     } else if name == b"row".as_slice() {
-        read_row(alloc, fields)
+        decode_row(fields, place)
     } else {
-        Ok(None)
+        None
     }
+}
+
+/// The same, where the fields are written between two places.
+#[tactic(auto, using(crate::proofs::Shapes::at_front))]
+#[inline(always)]
+pub(crate) fn decode_between(
+    line: &[u8],
+    bytes: &mut [u8],
+    start: usize,
+    end: usize,
+) -> Option<Shape>
+    requires order { start ≤ end }
+    requires within { end ≤ length bytes.old }
+    requires room { 2 * start + length line.now ≤ 2 * end }
+    requires small { end < 2 ^ 32 }
+    ensures command { option_map (λ s. command_at s (drop start bytes.new)) result
+        ≡ command_of_words (words line.now) }
+    ensures within { IfSome result (λ s. start + shape_size s ≤ length bytes.new) }
+    ensures front { take start bytes.new ≡ take start bytes.old }
+    ensures len { length bytes.new ≡ length bytes.old }
+{
+    decode_command(line, &mut bytes[start..end])
 }

@@ -3,6 +3,7 @@ ghost use Rattle.std.specs.Prelude.{◌≡◌, [], ◌∷◌, ◌++◌, OnOk, On
 ghost use Rattle.std.specs.Vec.{VecUnchanged};
 
 use crate::command::{Command, command_size};
+use crate::command_iter::CommandIter;
 use crate::sizes::PutSizes;
 use std::alloc::Global;
 use std::marker::Model;
@@ -90,7 +91,7 @@ impl Commands {
             return Err(CommandsError::Full);
         }
         let mut puts = self.puts;
-        puts.add(&command);
+        puts.add_command(&command);
         append(&mut self.commands, command)?;
         self.size += size;
         self.puts = puts;
@@ -133,6 +134,13 @@ impl Commands {
         ensures { option_copied result ≡ slice_get self.now i }
     {
         self.commands.get(i)
+    }
+
+    /// They, in order.
+    pub fn iter(&self) -> CommandIter<'_>
+        ensures { result ≡ self.now }
+    {
+        CommandIter::of_commands(&self.commands)
     }
 
     /// All of them. Their keys are texts.

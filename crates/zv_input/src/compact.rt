@@ -1,13 +1,9 @@
 // Bytes that stand in place where they are few, and are boxed where they are more.
 ghost use Rattle.std.specs.Prelude.{◌≡◌, ◌≤◌, IsTrue, IsUtf8, IfOk, length, take};
 ghost use Rattle.std.specs.Str.{is_utf8};
-ghost use Rattle.std.specs.Option.{option_copied, option_map};
 ghost use Rattle.zv_input.specs.Digits.{content_of, is_of_kind};
-ghost use Rattle.zv_input.specs.Input.{words};
-ghost use Rattle.zv_input.specs.Words.{first_of, words_after};
 
-use crate::digits::{decode, decode_front, decode_to};
-use crate::lines::{after_word, cut_word};
+use crate::digits::{decode, decode_to};
 use std::alloc::Global;
 use std::marker::Model;
 use zv_ule::NoMemory;
@@ -42,9 +38,9 @@ fn is_text(bytes: &[u8]) -> bool
     std::str::from_utf8(bytes).is_ok()
 }
 
-// Whether bytes are of a kind.
+/// Whether bytes are of a kind.
 #[inline(always)]
-fn is_of_kind(kind: u8, bytes: &[u8]) -> bool
+pub(crate) fn is_of_kind(kind: u8, bytes: &[u8]) -> bool
     ensures { result ≡ is_of_kind kind bytes.now }
 {
     if kind == TEXT { is_text(bytes) } else { true }
@@ -100,42 +96,6 @@ impl<const KIND: u8> CompactBytes<KIND> {
             return Ok(None);
         }
         Ok(Some(CompactBytes::in_place(bytes, len)))
-    }
-
-    /// The bytes that the hex digits of a text's first word stand for, and what follows that word's
-    /// space; `None` where they stand for none, or where they aren't of the kind. Up to 12 bytes
-    /// take no memory, and their digits are read once.
-    #[tactic(auto, using(crate::proofs::Decoding::lacks_space))]
-    #[inline(always)]
-    pub(crate) fn cut_hex(
-        alloc: Global,
-        text: &[u8],
-    ) -> Result<Option<(Self, Option<&[u8]>)>, NoMemory>
-        ensures { IfOk result (λ o. option_map (λ p. (p.0, words_after (option_copied p.1))) o
-            ≡ first_of (content_of KIND) (words text.now)) }
-    {
-        let mut bytes = [0u8; IN_PLACE];
-        let len = decode_front(text, &mut bytes);
-        let Some(rest) = after_word(text, 2 * len) else {
-            return CompactBytes::cut_other_hex(alloc, text);
-        };
-        if !is_of_kind(KIND, &bytes[..len]) {
-            return Ok(None);
-        }
-        Ok(Some((CompactBytes::in_place(bytes, len), rest)))
-    }
-
-    // The same for any word. (Apart, it leaves the way of the many short ones free.)
-    #[inline(never)]
-    fn cut_other_hex(alloc: Global, text: &[u8]) -> Result<Option<(Self, Option<&[u8]>)>, NoMemory>
-        ensures { IfOk result (λ o. option_map (λ p. (p.0, words_after (option_copied p.1))) o
-            ≡ first_of (content_of KIND) (words text.now)) }
-    {
-        let (digits, rest) = cut_word(text);
-        match CompactBytes::from_hex(alloc, digits)? {
-            Some(bytes) => Ok(Some((bytes, rest))),
-            None => Ok(None),
-        }
     }
 
     // The same for bytes that take memory. (Apart, it leaves the way of the many short ones free.)

@@ -1,11 +1,11 @@
 // Lines and words.
-ghost use Rattle.std.specs.Prelude.{◌≡◌, ◌<◌, ◌≤◌, [], ◌∷◌, ◌++◌, length, take};
+ghost use Rattle.std.specs.Prelude.{◌≡◌, ◌+◌, ◌<◌, ◌≤◌, [], ◌∷◌, ◌++◌, length, take};
 ghost use Rattle.std.specs.Prelude.{IfSome, MatchOption};
 ghost use Rattle.std.specs.List.{slice_split};
 ghost use Rattle.std.specs.Option.{option_copied};
 ghost use Rattle.memchr.specs.Find.{is_byte};
 ghost use Rattle.zv_input.specs.Input.{lines, words};
-ghost use Rattle.zv_input.specs.Words.{Lacks, words_after};
+ghost use Rattle.zv_input.specs.Words.{Lacks, text_size, words_after};
 
 use memchr::memchr;
 
@@ -28,7 +28,8 @@ pub fn split_at_byte(byte: u8, text: &[u8]) -> (&[u8], Option<&[u8]>)
 
 /// The first word, and what follows the space after it, if there is one.
 pub(crate) fn cut_word(text: &[u8]) -> (&[u8], Option<&[u8]>)
-    ensures { words text.now ≡ result.0.now ∷ words_after (option_copied result.1) }
+    ensures words { words text.now ≡ result.0.now ∷ words_after (option_copied result.1) }
+    ensures size { length result.0.now + text_size (option_copied result.1) ≡ length text.now }
 {
     split_at_byte(b' ', text)
 }
@@ -40,8 +41,10 @@ pub(crate) fn cut_word(text: &[u8]) -> (&[u8], Option<&[u8]>)
 pub(crate) fn after_word(text: &[u8], len: usize) -> Option<Option<&[u8]>>
     requires within { len ≤ length text.now }
     requires word { Lacks 32 (take len text.now) }
-    ensures { IfSome result (λ rest.
+    ensures words { IfSome result (λ rest.
         words text.now ≡ take len text.now ∷ words_after (option_copied rest)) }
+    ensures size { IfSome result (λ rest.
+        len + text_size (option_copied rest) ≡ length text.now) }
 {
     if len == text.len() {
         return Some(None);

@@ -1,16 +1,11 @@
-use Rattle.zv_edit.proofs.Common.{◌≡◌, answers, false, Ok, Err, Result, OnOk, refl, rules}
+use Rattle.zv_edit.proofs.Common.{answers, refl, rules}
 use Rattle.std.specs.Io.KnownBytes.{Appends}
 use Rattle.zv_devices.specs.Devices.{AppendsPrefix}
-use Rattle.std.specs.Result.{is_err}
+use Rattle.zv_edit.proofs.Served.{made}
 use Rattle.zv_edit.proofs.edit.edit2d.Goals as goal
 
--- what holds where there is no error
-made : {T E P : Type 0} (r : Result T E) → false ≡ is_err r → OnOk r P → P
-made (Ok x) none h = h
-made (Err e) none h = absurd cc
-
 pub serve-requires : goal.serve-requires
-serve-requires g c = record { room = made c.reserve.result c.if-is_err.ensures.value c.reserve.ensures.room }
+serve-requires g c = record { room = rw c.put_sizes.ensures.sizes at (made c.reserve.result c.if-is_err.ensures.value c.reserve.ensures.room) }
 
 pub returns-in-Ok-clause-ok : goal.returns-in-Ok-clause-ok
 returns-in-Ok-clause-ok g c =

@@ -1,5 +1,5 @@
-use Rattle.zv_edit.proofs.Common.{◌≡◌, ◌∙◌, ℕ, List, Bool, false, true, ap, rules, sym, if◌then◌else◌, option_map_or, fits_texts, by_bytes, find, added, old}
-use Rattle.zv_edit.proofs.Common.{text, too_large, Reply}
+use Rattle.zv_edit.proofs.Common.{◌≡◌, Bool, false, true, ap, rules, if◌then◌else◌, option_map_or, fits_texts, by_bytes, find, added, old}
+use Rattle.zv_edit.proofs.Common.{text, too_large}
 use Rattle.zv_command.proofs.Sending.{sends_as}
 use Rattle.zv_edit.proofs.replies.put.Goals as goal
 
@@ -14,6 +14,5 @@ pub returns-clause-text : goal.returns-clause-text
 returns-clause-text g c =
     let m = c.args.map.now.rows in
     let fit : fits_texts m c.args.key0.now c.args.key1.now c.args.value.now ≡ true = search rules in
-    let found : List ℕ → List ℕ → Reply = λ a b. option_map_or old (find by_bytes by_bytes m a b) added in
-    sends_as (ap (λ (b : Bool). text (if b then found c.args.key0.now c.args.key1.now else too_large)) fit
-    ∙ (λ i. text (found (sym c.as_str-key0.ensures i) (sym c.as_str-key1.ensures i)))) c.put_at.ensures.text
+    let found = find by_bytes by_bytes m c.args.key0.now c.args.key1.now in
+    sends_as (ap (λ (b : Bool). text (if b then option_map_or old found added else too_large)) fit) c.put_at.ensures.text

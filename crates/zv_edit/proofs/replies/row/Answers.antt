@@ -3,4 +3,4 @@ use Rattle.zv_command.proofs.Sending.{sends_more}
 use Rattle.zv_edit.proofs.replies.row.Goals as goal
 
 pub returns : goal.returns
-returns g c = rw (← c.as_str.ensures, ← c.in-Some.ensures.pairs) (search (rules, sends_more))
+returns g c = rw (← c.in-Some.ensures.pairs) (search (rules, sends_more))

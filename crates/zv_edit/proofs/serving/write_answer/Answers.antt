@@ -16,7 +16,7 @@ canon_written m w p lists parts = rw (lists, parts) refl
 pub returns-clause-text : goal.returns-clause-text
 returns-clause-text g c =
     let m = c.args.map.now.rows in
-    let cs = c.args.commands.now in
+    let cs = c.args.commands in
     let ran : c.run_commands.new.map.rows ≡ last m cs = search rules in
     let layouts = c.settle.ensures.layouts in
     let lists = c.wide_lists.ensures ∙ settled_lists _ layouts in
@@ -28,6 +28,6 @@ returns-clause-text g c =
 
 pub returns-clause-failed : goal.returns-clause-failed
 returns-clause-failed g c =
-    let cs = c.args.commands.now in
+    let cs = c.args.commands in
     let ran : c.run_commands.new.map.rows ≡ last c.args.map.now.rows cs = search rules in
     at_err c.write_image.result (length cs, c.settle.ensures.rows ∙ ran ∙ ap (last c.args.map.now.rows) (sym (take_all (length cs) cs (omega arith))))
