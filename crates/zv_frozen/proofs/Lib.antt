@@ -4,6 +4,7 @@ mod Sizes
 mod Answered
 mod Apart
 mod Found
+mod Limits
 mod Parsed
 mod Placements
 mod Refusals

@@ -183,7 +183,8 @@ fn thaw_ready(alloc: Global, frozen: &Frozen<'_>) -> Result<ImageMap<'static>, M
     Ok(map)
 }
 
-// Answers for a frozen image. A map that is refused is told as a want of memory.
+// Answers for a frozen image. A map that is refused is told as a want of memory: by the laws, within
+// the limit on inputs nothing else refuses it.
 fn answer_thawed<K: Sink>(alloc: Global, bytes: &[u8], frozen: &Frozen<'_>, sink: &mut K) -> Status
     requires sound { frozen_fault bytes.now ≡ None }
     requires table { IsReadAs bytes.now frozen.now }

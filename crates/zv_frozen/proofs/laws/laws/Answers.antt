@@ -1,10 +1,8 @@
 use Rattle.zv_frozen.proofs.Common.{◌∙◌, sym}
-use Rattle.zv_frozen.proofs.Apart.{apart}
 use Rattle.zv_frozen.proofs.Keys.{key_back, passes, tested}
+use Rattle.zv_frozen.proofs.Limits.{never_refused}
 use Rattle.zv_frozen.proofs.Placements.{placed_tested}
 use Rattle.zv_frozen.proofs.OneTable.{one_frozen}
-use Rattle.zv_frozen.proofs.Refusals.{refused}
-use Rattle.zv_frozen.proofs.Told.{asked}
 use Rattle.zv_frozen.proofs.Thawed.{thawed_alike}
 use Rattle.zv_frozen.proofs.laws.laws.Goals as goal
 
@@ -20,6 +18,9 @@ returns-clause-one c = one_frozen c.one_placement.ensures.displacements
 
 pub returns-clause-thawed : goal.returns-clause-thawed
 returns-clause-thawed c = thawed_alike c.home_tables.ensures
+
+pub returns-clause-accepted : goal.returns-clause-accepted
+returns-clause-accepted c = never_refused
 
 pub returns-clause-placed : goal.returns-clause-placed
 returns-clause-placed c = placed_tested
