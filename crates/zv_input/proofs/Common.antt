@@ -16,7 +16,7 @@ pub use Rattle.hex.proofs.HexLemmas.{decode_of-ok}
 pub use Rattle.memchr.specs.Find.{is_byte}
 pub use Rattle.zv_input.specs.Commands.{total_size, command_size, OfTexts}
 pub use Rattle.zv_input.specs.Digits.{bytes_of_digits, ◌>>=◌, content_of}
-pub use Rattle.zv_input.specs.Input.{lines, words, command_of_words, field, key, without_empty_last, row, get, del, put}
+pub use Rattle.zv_input.specs.Input.{lines, words, command_of_words, field, key, without_empty_last, row, two_keys, put}
 pub use Rattle.zv_input.specs.Words.{Lacks, first_of, words_after, after_mark, first_keys, if_last}
 pub use Rattle.zv_input.specs.Sizes.{put_sizes, sizes_of, total_of, all_puts}
 pub use Rattle.zv_input.specs.declared.command.Command.{Command}

@@ -1,7 +1,7 @@
 -- What a line's words say of its command: it is no larger than they are, and its keys are texts.
 use Rattle.zv_input.proofs.Common.{◌≡◌, ℕ, ◌+◌, ◌*◌, ◌≤◌, List, [], ◌∷◌, length, refl, arith, None, IfSome, onto_first, length-slice_split, sum_by-cons}
-use Rattle.zv_input.proofs.Common.{is_byte, decode_of-ok, Command, Get, Put, Del, Row, command_size, ◌>>=◌, words, field, key, command_of_words, OfTexts}
-use Rattle.zv_input.proofs.Common.{first_of, slice_split, sum_by, get, del, row, first_keys, if_last, put}
+use Rattle.zv_input.proofs.Common.{is_byte, decode_of-ok, Command, Put, Row, command_size, ◌>>=◌, words, field, key, command_of_words, OfTexts}
+use Rattle.zv_input.proofs.Common.{first_of, slice_split, sum_by, two_keys, row, first_keys, if_last, put}
 use Rattle.zv_ule.specs.Kinds.{text_fault}
 
 -- ---- fields
@@ -51,15 +51,12 @@ line_command line = let is = command_is (words line) in let size = pieces_size 3
 
 -- ---- word by word
 
--- a command before other words
-pub not_last : (c : Command) (text : List ℕ) → if_last c (words text) ≡ None
-not_last c text = let some = length-slice_split (is_byte 32) text in grind arith
+-- fields before other words
+pub not_last : {A : Type 0} (a : A) (text : List ℕ) → if_last a (words text) ≡ None
+not_last a text = let some = length-slice_split (is_byte 32) text in grind arith
 
-pub get_by_keys : (ws : List (List ℕ)) → get ws ≡ (first_keys ws >>= (λ t. if_last (Get t.0 t.1) t.2))
-get_by_keys ws = grind arith
-
-pub del_by_keys : (ws : List (List ℕ)) → del ws ≡ (first_keys ws >>= (λ t. if_last (Del t.0 t.1) t.2))
-del_by_keys ws = grind arith
+pub two_by_keys : (ws : List (List ℕ)) → two_keys ws ≡ (first_keys ws >>= (λ t. if_last (t.0, t.1) t.2))
+two_by_keys ws = grind arith
 
 pub put_by_keys : (ws : List (List ℕ)) → put ws ≡ (first_keys ws >>= (λ t. first_of field t.2 >>= (λ v. if_last (Put t.0 t.1 v.0) v.1)))
 put_by_keys ws = grind arith

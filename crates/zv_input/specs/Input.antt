@@ -64,13 +64,19 @@ key word = do
 
 -- ---- commands
 
--- the look-up of a pair of keys: what stands after `get`
-abbrev pub get : List (List ℕ) → Option Command
-get fields = do
+-- the keys, where the words are two
+abbrev pub two_keys : List (List ℕ) → Option (List ℕ × List ℕ)
+two_keys fields = do
   pair ← two_words fields
   key0 ← key pair.0
   key1 ← key pair.1
-  Some (Get key0 key1)
+  Some (key0, key1)
+
+-- the look-up of a pair of keys: what stands after `get`
+abbrev pub get : List (List ℕ) → Option Command
+get fields = do
+  keys ← two_keys fields
+  Some (Get keys.0 keys.1)
 
 -- a value, which is a field, for a pair of keys: what stands after `put`
 abbrev pub put : List (List ℕ) → Option Command
@@ -84,10 +90,8 @@ put fields = do
 -- the removal of a pair of keys: what stands after `del`
 abbrev pub del : List (List ℕ) → Option Command
 del fields = do
-  pair ← two_words fields
-  key0 ← key pair.0
-  key1 ← key pair.1
-  Some (Del key0 key1)
+  keys ← two_keys fields
+  Some (Del keys.0 keys.1)
 
 -- all pairs of a first key: what stands after `row`
 abbrev pub row : List (List ℕ) → Option Command

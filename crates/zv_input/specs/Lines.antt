@@ -18,9 +18,10 @@ AddsCommand cs line new false = (command_of_words (words line) ≡ None) × (new
 
 -- The fields of commands of these shapes stand in the bytes before a place, their keys are texts,
 -- they come to no more than a list's limit, and their puts have these sizes.
-pub record AreKept (shapes : List Shape) (bytes : List ℕ) (place : ℕ) (puts : PutSizes) : Type 0 where
-  pub end : place ≡ fields_size shapes
-  pub within : place ≤ length bytes
-  pub limit : total_size (commands_at shapes bytes) ≤ 16777216
-  pub sizes : puts ≡ put_sizes (commands_at shapes bytes)
-  pub texts : AllByRecursion OfTexts (commands_at shapes bytes)
+pub record AreKept (shapes : List Shape) (bytes : List ℕ) (place : ℕ) (puts : PutSizes) : Type 0
+  where
+    pub end : place ≡ fields_size shapes
+    pub within : place ≤ length bytes
+    pub limit : total_size (commands_at shapes bytes) ≤ 16777216
+    pub sizes : puts ≡ put_sizes (commands_at shapes bytes)
+    pub texts : AllByRecursion OfTexts (commands_at shapes bytes)

@@ -6,7 +6,6 @@ use Rattle.std.specs.declared.option.Option.TheVariants.{Some, None}
 use Rattle.memchr.specs.Find.{is_byte}
 use Rattle.zv_input.specs.Digits.{◌>>=◌}
 use Rattle.zv_input.specs.Input.{key, words}
-use Rattle.zv_input.specs.declared.command.Command.{Command}
 
 -- what follows the mark `x` (120) of a field
 abbrev pub after_mark : List ℕ → Option (List ℕ)
@@ -31,10 +30,10 @@ first_of read (word ∷ rest) = do
   a ← read word
   Some (a, rest)
 
--- a command, where no words follow its fields
-abbrev pub if_last : Command → List (List ℕ) → Option Command
-if_last c [] = Some c
-if_last c (word ∷ rest) = None
+-- what fields are read as, where no words follow them
+abbrev pub if_last : {A : Type 0} → A → List (List ℕ) → Option A
+if_last a [] = Some a
+if_last a (word ∷ rest) = None
 
 -- what the first two words are as keys, and the words that follow them
 abbrev pub first_keys : List (List ℕ) → Option (List ℕ × List ℕ × List (List ℕ))

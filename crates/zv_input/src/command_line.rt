@@ -1,29 +1,26 @@
 // Commands as lines.
 ghost use Rattle.std.specs.Prelude.{◌≡◌, ◌+◌, ◌*◌, ◌≤◌, ◌<◌, ◌^◌, IfSome, drop, length, take};
 ghost use Rattle.std.specs.Option.{option_copied, option_map};
-ghost use Rattle.zv_input.specs.Input.{words, get, put, del, row, command_of_words};
+ghost use Rattle.zv_input.specs.Input.{words, two_keys, put, row, command_of_words};
 ghost use Rattle.zv_input.specs.Shapes.{command_at, shape_size};
 ghost use Rattle.zv_input.specs.Words.{text_size, words_after};
 
 use crate::field::{decode_key, decode_keys, decode_value};
-use crate::lines::cut_word;
+use crate::lines::cut_name;
 use crate::shape::Shape;
 
-// `get K K`: a look-up.
-#[tactic(auto, using(crate::proofs::Fields::get_by_keys, crate::proofs::Fields::not_last))]
+// Writes the keys that all words of `get` and of `del` are, and gives their lengths.
+#[tactic(auto, using(crate::proofs::Fields::two_by_keys, crate::proofs::Fields::not_last))]
 #[inline(always)]
-fn decode_get(fields: Option<&[u8]>, place: &mut [u8]) -> Option<Shape>
+fn decode_pair(fields: Option<&[u8]>, place: &mut [u8]) -> Option<(u32, u32)>
     requires room { text_size (option_copied fields) ≤ 2 * length place.old + 2 }
     requires small { length place.old < 2 ^ 32 }
-    ensures command { option_map (λ s. command_at s place.new) result
-        ≡ get (words_after (option_copied fields.entry)) }
-    ensures within { IfSome result (λ s. shape_size s ≤ length place.new) }
+    ensures keys { option_map (λ k. (take k.0 place.new, take k.1 (drop k.0 place.new))) result
+        ≡ two_keys (words_after (option_copied fields.entry)) }
+    ensures within { IfSome result (λ k. k.0 + k.1 ≤ length place.new) }
 {
     match decode_keys(fields, place)? {
-        (key0, key1, None) => Some(Shape::Get {
-            key0: key0 as u32,
-            key1: key1 as u32,
-        }),
+        (key0, key1, None) => Some((key0 as u32, key1 as u32)),
         _ => None,
     }
 }
@@ -44,25 +41,6 @@ fn decode_put(fields: Option<&[u8]>, place: &mut [u8]) -> Option<Shape>
             key0: key0 as u32,
             key1: key1 as u32,
             value: value as u32,
-        }),
-        _ => None,
-    }
-}
-
-// `del K K`: a removal.
-#[tactic(auto, using(crate::proofs::Fields::del_by_keys, crate::proofs::Fields::not_last))]
-#[inline(always)]
-fn decode_del(fields: Option<&[u8]>, place: &mut [u8]) -> Option<Shape>
-    requires room { text_size (option_copied fields) ≤ 2 * length place.old + 2 }
-    requires small { length place.old < 2 ^ 32 }
-    ensures command { option_map (λ s. command_at s place.new) result
-        ≡ del (words_after (option_copied fields.entry)) }
-    ensures within { IfSome result (λ s. shape_size s ≤ length place.new) }
-{
-    match decode_keys(fields, place)? {
-        (key0, key1, None) => Some(Shape::Del {
-            key0: key0 as u32,
-            key1: key1 as u32,
         }),
         _ => None,
     }
@@ -94,13 +72,15 @@ fn decode_command(line: &[u8], place: &mut [u8]) -> Option<Shape>
         ≡ command_of_words (words line.now) }
     ensures within { IfSome result (λ s. shape_size s ≤ length place.new) }
 {
-    let (name, fields) = cut_word(line);
+    let (name, fields) = cut_name(line);
     if name == b"get".as_slice() {
-        decode_get(fields, place)
+        let (key0, key1) = decode_pair(fields, place)?;
+        Some(Shape::Get { key0, key1 })
     } else if name == b"put".as_slice() {
         decode_put(fields, place)
     } else if name == b"del".as_slice() {
-        decode_del(fields, place)
+        let (key0, key1) = decode_pair(fields, place)?;
+        Some(Shape::Del { key0, key1 })
     } else if name == b"row".as_slice() {
         decode_row(fields, place)
     } else {

@@ -55,3 +55,18 @@ pub(crate) fn after_word(text: &[u8], len: usize) -> Option<Option<&[u8]>>
         None
     }
 }
+
+/// As [`cut_word`], at once where the word has three bytes, as the names of commands have.
+#[tactic(auto, using(crate::proofs::Cutting::lacks_three))]
+#[inline(always)]
+pub(crate) fn cut_name(text: &[u8]) -> (&[u8], Option<&[u8]>)
+    ensures words { words text.now ≡ result.0.now ∷ words_after (option_copied result.1) }
+    ensures size { length result.0.now + text_size (option_copied result.1) ≡ length text.now }
+{
+    if text.len() >= 3 && text[0] != b' ' && text[1] != b' ' && text[2] != b' ' {
+        if let Some(rest) = after_word(text, 3) {
+            return (&text[..3], rest);
+        }
+    }
+    cut_word(text)
+}

@@ -7,7 +7,8 @@ abbrev pub invariant-loop-command : goal.invariant-loop-command
 invariant-loop-command g l = record {
   can_next : (goal.iterator-loop-command g).can_next l.command-iterator;
   is_finite : (goal.iterator-loop-command g).is_finite l.command-iterator;
-  text : Completes g.K.Sink.taken g.K.Sink.faults l.initial.out l.out (reply_lines l.initial.map.rows l.fn.commands) (reply_lines l.map.rows l.command-iterator);
+  text : Completes g.K.Sink.taken g.K.Sink.faults l.initial.out l.out (reply_lines l.initial.map.rows l.fn.commands)
+      (reply_lines l.map.rows l.command-iterator);
   ran : (n : ℕ) × (drop n l.fn.commands ≡ l.command-iterator) × (l.map.rows ≡ last l.initial.map.rows (take n l.fn.commands));
   room : HasRoomOf (put_sizes l.command-iterator) l.map;
 }

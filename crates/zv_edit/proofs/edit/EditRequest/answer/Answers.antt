@@ -17,4 +17,5 @@ returns g c =
     let m = c.reserve.new.map.rows in
     let is = ap (answers m) (c.iter.ensures ∙ c.self.view_is) in
     let served = c.serve_all.ensures in
-    answered _ (IsAnswer c.args.image.now c.args.self.now) _ _ (sym image.error) (m, rw c.reserve.ensures.rows image.map, is) served.text served.cause c.status_of.ensures
+    answered _ (IsAnswer c.args.image.now c.args.self.now) _ _ (sym image.error) (m, rw c.reserve.ensures.rows image.map, is)
+    served.text served.cause c.status_of.ensures
