@@ -1,9 +1,11 @@
 -- The laws of overlays.
-use Rattle.zv_layers.proofs.Common.{◌≡◌, ◌∙◌, ◌<◌, List, [], ◌∷◌, ◌++◌, Option, refl, ap, sym, arith, length, exact_bytes, option_or, unwrap_or, IfSome, ⊤}
-use Rattle.zv_layers.proofs.Common.{maps_alike, keys_of, look_up, look_up_holds, row_ordered, values_all, Triple, last_given, put_all, by_bytes, Bytes, Rows}
-use Rattle.zv_layers.proofs.Common.{keeps_last, Associative, EmptyOver, FoundInUpper, IsInOrder, OnlyOverlay, OverItself, OverlayInOrder, found, overlay}
-use Rattle.zv_layers.proofs.Common.{triples}
+use Rattle.zv_layers.proofs.Common.{◌++◌, ◌<◌, ◌∙◌, ◌∷◌, ◌≡◌, Associative, Bytes, EmptyOver, FoundInUpper, IfSome, IsInOrder, List, OnlyOverlay, Option}
+use Rattle.zv_layers.proofs.Common.{OverItself, OverlayInOrder, Rows, Triple, [], ap, arith, by_bytes, exact_bytes, found, keys_of, last_given, length, look_up}
+use Rattle.zv_layers.proofs.Common.{look_up_holds, overlay, refl, row_ordered, sym, triples, unwrap_or, values_all, ⊤}
 use Rattle.std.proofs.lemmas.Cmp.{nat_list_cmp_total as total}
+use Rattle.std.specs.Option.{option_or}
+use Rattle.zv_map.proofs.Places.{maps_alike}
+use Rattle.zv_map2d_laws.proofs.FiniteMap.{keeps_last}
 use Rattle.zv_layers.proofs.Laid.{anything}
 use Rattle.zv_layers.proofs.Overlays.{all_after, over_none, puts_in_order}
 
@@ -19,11 +21,9 @@ given_once m k0 k1 well = sym (keeps_last by_bytes by_bytes total total (triples
 
 pub found_in_upper : FoundInUpper
 found_in_upper m o k0 k1 wm wo =
-    ap (λ n. found (put_all by_bytes by_bytes n (triples o)) k0 k1) (sym (over_none m wm))
-    ∙ ap (λ n. found n k0 k1) (sym (all_after [] (triples m) (triples o)))
-    ∙ keeps_last by_bytes by_bytes total total (triples m ++ triples o) k0 k1 ∙ given_after (triples m) (triples o) k0 k1
-    ∙ ap (λ x. option_or x (last_given by_bytes by_bytes (triples m) k0 k1)) (given_once o k0 k1 wo)
-    ∙ ap (option_or (found o k0 k1)) (given_once m k0 k1 wm)
+    let all = given_after (triples m) (triples o) k0 k1 in
+    let last = keeps_last by_bytes by_bytes total total (triples m ++ triples o) k0 k1 in
+    rw (← given_once o k0 k1 wo, ← given_once m k0 k1 wm, ← all, ← last, all_after [] (triples m) (triples o), over_none m wm) refl
 
 -- ---- which map it is
 

@@ -1,24 +1,29 @@
 -- Images, laid one after another, and what is due to them.
+use Rattle.zv_layers.proofs.Common.{◌+◌, ◌<◌, ◌∙◌, ◌∷◌, ◌≡◌, Global, IsLaid, IsRefusalOf, Leaves, List, None, Option, Result, Rows, Some, Vec, [], ap, arith}
+use Rattle.zv_layers.proofs.Common.{bytes_of_all, drop, drop_more, fault_or, first_fault, get_or, laid_due, layer_line, length, refl, subst, sym, ℕ}
+use Rattle.zv_command.specs.Due.{Tells, text_due}
+use Rattle.zv_command.specs.declared.status.Status.{Status}
+use Rattle.zv_command.specs.declared.status.Status.TheVariants.{BadImage, Done}
+use Rattle.zv_devices.specs.Devices.{HasCause, Takes}
+use Rattle.zv_devices.specs.declared.device.Failed.{Failed}
 use Rattle.zv_image.proofs.Faults.{told}
+use Rattle.zv_image.specs.Due.{status_of}
 use Rattle.zv_layers.specs.Requests.{layers_due}
-use Rattle.zv_layers.proofs.Common.{◌≡◌, ◌∙◌, ◌+◌, ◌<◌, ℕ, List, [], ◌∷◌, Option, Some, None, Result, Vec, refl, ap, sym, subst, drop}
-use Rattle.zv_layers.proofs.Common.{get_or, length, drop_more, Global, HasCause, Takes, Failed, fault, Rows, EditError, Tells, text_due, Status}
-use Rattle.zv_layers.proofs.Common.{BadImage, Done, status_of, IsLaid, IsRefusalOf, Leaves, bytes_of_all, fault_or, first_fault, laid_due, layer_line}
-use Rattle.zv_layers.proofs.Common.{Refusal, Fault}
-use Rattle.zv_layers.specs.declared.form.Refusal.TheVariants.{Memory}
+use Rattle.zv_layers.specs.declared.form.Refusal.{Refusal}
+use Rattle.zv_layers.specs.declared.form.Refusal.TheVariants.{Fault, Memory}
+use Rattle.zv_map2d.specs.Image.{fault}
+use Rattle.zv_map2d.specs.declared.error.EditError.{EditError}
 
 -- ---- one image after another
 
 module _ (n : ℕ) (rest : Option (ℕ × EditError)) where
   -- an image without a fault leaves the fault of the others
   passed : (f : Option EditError) → fault_or n f None ≡ None → fault_or n f rest ≡ rest
-  passed None is = refl
-  passed (Some e) is = absurd cc
+  passed f is = grind arith
 
   -- and one with a fault is the first that has one
   caught : (f : Option EditError) {x : ℕ × EditError} → fault_or n f None ≡ Some x → fault_or n f rest ≡ Some x
-  caught None is = absurd cc
-  caught (Some e) is = is
+  caught f is = grind arith
 
 -- the images of all before number n were laid and left a map, and these are the others
 pub record SoFar (all : List (List ℕ)) (n : ℕ) (m : Rows) (rest : List (List ℕ)) : Type 0 where

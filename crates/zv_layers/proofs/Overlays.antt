@@ -1,13 +1,10 @@
 -- A map laid over another is its rows laid over the other's, one after another.
-use Rattle.zv_layers.proofs.Common.{◌≡◌, ◌∙◌, List, [], ◌∷◌, ◌++◌, None, Some, refl, ap, arith, tied_itself, AllByRecursion, look_up-insert_entry, IsMap}
-use Rattle.zv_layers.proofs.Common.{insert_entry, look_up, put_well, Triple, put_all, by_bytes, Bytes, IsRow, IsWell, Rows, put, row, overlay, row_triples}
-use Rattle.zv_layers.proofs.Common.{triples, laid_pairs, laid_rows, over_row}
+use Rattle.zv_layers.proofs.Common.{◌++◌, ◌∙◌, ◌∷◌, ◌≡◌, AllByRecursion, Bytes, IsRow, IsWell, List, None, Option, Rows, Some, Triple, [], ap, arith, by_bytes}
+use Rattle.zv_layers.proofs.Common.{insert_entry, joined, laid_pairs, laid_rows, later, look_up, overlay, put, put_all, put_well, refl, row, row_triples}
+use Rattle.zv_layers.proofs.Common.{tied_itself, triples, unwrap_or}
 use Rattle.std.proofs.lemmas.Cmp.{nat_list_cmp_total as total}
+use Rattle.zv_map.proofs.Places.{look_up-insert_entry}
 use Rattle.zv_layers.proofs.Laid.{again, alone}
-
--- after a put the key's row has the value
-pub look_up_put : (m : Rows) (k k1 v : Bytes) → look_up by_bytes (put by_bytes by_bytes m k k1 v) k ≡ Some (insert_entry by_bytes (row by_bytes m k) k1 v)
-look_up_put m k k1 v = rw (look_up-insert_entry total m k k (insert_entry by_bytes (row by_bytes m k) k1 v), tied_itself total k) refl
 
 pub all_after : (m : Rows) (xs ys : List Triple) → put_all by_bytes by_bytes m (xs ++ ys) ≡ put_all by_bytes by_bytes (put_all by_bytes by_bytes m xs) ys
 all_after m [] ys = refl
@@ -17,34 +14,39 @@ pub puts_in_order : (m : Rows) (ts : List Triple) → IsWell by_bytes by_bytes m
 puts_in_order m [] well = well
 puts_in_order m (t ∷ ts) well = puts_in_order (put by_bytes by_bytes m t.0 t.1 t.2) ts (put_well total total m t.0 well t.1 t.2)
 
--- the pairs of a row, put one after another, are the row put over the one that is there
-row_is : (m : Rows) (k : Bytes) (p : Bytes × Bytes) (ps : List (Bytes × Bytes)) →
-    put_all by_bytes by_bytes m (row_triples k (p ∷ ps)) ≡ insert_entry by_bytes m k (laid_pairs (row by_bytes m k) (p ∷ ps))
-row_is m k p [] = refl
-row_is m k p (q ∷ ps) =
-    row_is (put by_bytes by_bytes m k p.0 p.1) k q ps
-    ∙ ap (λ r. insert_entry by_bytes (put by_bytes by_bytes m k p.0 p.1) k (over_row r (q ∷ ps))) (look_up_put m k p.0 p.1)
-    ∙ again m k (insert_entry by_bytes (row by_bytes m k) p.0 p.1) (laid_pairs (insert_entry by_bytes (row by_bytes m k) p.0 p.1) (q ∷ ps))
+-- the later value counts
+later_joined : (old : Option Bytes) (new : Bytes) → joined later old new ≡ new
+later_joined None new = refl
+later_joined (Some old) new = refl
 
-pub overlay_laid : (m o : Rows) → AllByRecursion (IsRow by_bytes) o → overlay m o ≡ laid_rows m o
-overlay_laid m [] rows = refl
-overlay_laid m ((k, []) ∷ o) rows = absurd (omega (arith, rows.0.0))
-overlay_laid m ((k, p ∷ ps) ∷ o) rows =
-    all_after m (row_triples k (p ∷ ps)) (triples o) ∙ ap (λ n. put_all by_bytes by_bytes n (triples o)) (row_is m k p ps)
-    ∙ overlay_laid (insert_entry by_bytes m k (laid_pairs (row by_bytes m k) (p ∷ ps))) o rows.1
+-- pairs that are put into the row of a key are laid over it
+put_there : (m : Rows) (k : Bytes) (r : List (Bytes × Bytes)) (k1 v : Bytes) →
+    put by_bytes by_bytes (insert_entry by_bytes m k r) k k1 v ≡ insert_entry by_bytes m k (insert_entry by_bytes r k1 v)
+put_there m k r k1 v = rw (look_up-insert_entry total m k k r, tied_itself total k) (again m k r (insert_entry by_bytes r k1 v))
 
--- a row laid over no pairs, and rows where there are none
-pub pairs_alone : (ps : List (Bytes × Bytes)) → IsMap by_bytes ps → laid_pairs [] ps ≡ ps
-pairs_alone ps up = alone (λ old v. v) ps up (plain ps)
+into_row : (m : Rows) (k : Bytes) (r ps : List (Bytes × Bytes)) →
+    put_all by_bytes by_bytes (insert_entry by_bytes m k r) (row_triples k ps) ≡ insert_entry by_bytes m k (laid_pairs r ps)
+into_row m k r [] = refl
+into_row m k r (p ∷ ps) =
+    ap (λ n. put_all by_bytes by_bytes n (row_triples k ps)) (put_there m k r p.0 p.1)
+    ∙ rw (later_joined (look_up by_bytes r p.0) p.1) (into_row m k (insert_entry by_bytes r p.0 p.1) ps)
+
+-- and so over what a key has
+row_laid : (m : Rows) (k : Bytes) (ps : List (Bytes × Bytes)) → IsRow by_bytes (k, ps) →
+    put_all by_bytes by_bytes m (row_triples k ps) ≡ insert_entry by_bytes m k (joined laid_pairs (look_up by_bytes m k) ps)
+row_laid m k [] full = absurd (omega (arith, full.0))
+row_laid m k (p ∷ ps) full =
+    into_row m k (insert_entry by_bytes (row by_bytes m k) p.0 p.1) ps ∙ ap (insert_entry by_bytes m k) (over_row (look_up by_bytes m k))
   where
-    plain : (es : List (Bytes × Bytes)) → AllByRecursion (λ e. e.1 ≡ e.1) es
-    plain [] = tt
-    plain (e ∷ es) = (refl, plain es)
+    over_row : (old : Option (List (Bytes × Bytes))) →
+        laid_pairs (insert_entry by_bytes (unwrap_or old []) p.0 p.1) ps ≡ joined laid_pairs old (p ∷ ps)
+    over_row None = alone later (p ∷ ps) full.1
+    over_row (Some old) = rw (later_joined (look_up by_bytes old p.0) p.1) refl
 
-rows_alone : (m : Rows) → AllByRecursion (IsRow by_bytes) m → AllByRecursion (λ r. over_row None r.1 ≡ r.1) m
-rows_alone [] rows = tt
-rows_alone (r ∷ m) rows = (pairs_alone r.1 rows.0.1, rows_alone m rows.1)
+pub overlay_laid : (o m : Rows) → AllByRecursion (IsRow by_bytes) o → overlay m o ≡ laid_rows m o
+overlay_laid [] m rows = refl
+overlay_laid (r ∷ o) m rows = rw (all_after m (row_triples r.0 r.1) (triples o), row_laid m r.0 r.1 rows.0) (overlay_laid o _ rows.1)
 
 -- a map laid over the empty one
 pub over_none : (m : Rows) → IsWell by_bytes by_bytes m → overlay [] m ≡ m
-over_none m well = overlay_laid [] m well.1 ∙ alone over_row m well.0 (rows_alone m well.1)
+over_none m well = overlay_laid m [] well.1 ∙ alone laid_pairs m well.0

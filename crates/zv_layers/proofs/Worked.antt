@@ -1,12 +1,8 @@
 -- Worked rows of the definitions, computed.
-use Rattle.std.proofs.Common.{◌≡◌, ◌∷◌, [], ◌++◌, List, ℕ, refl, codes, replicate, Some, None}
-use Rattle.std.specs.Fmt.{digits}
-use Rattle.std.specs.Prelude.{map}
+use Rattle.zv_layers.proofs.Common.{◌++◌, ◌∷◌, ◌≡◌, List, None, Rows, Some, [], codes, layer_line, map, overlay, refl, replicate, triples, with_layer, ℕ}
 use Rattle.hex.specs.Hex.{decode_pairs}
-use Rattle.zv_map2d.specs.Rows.{Rows}
+use Rattle.std.specs.Fmt.{digits}
 use Rattle.zv_map2d.specs.declared.error.EditError.TheVariants.{Frame}
-use Rattle.zv_layers.specs.Overlays.{overlay, triples}
-use Rattle.zv_layers.specs.Requests.{layer_line, with_layer}
 
 -- a row of pairs whose keys and values are a byte each
 abbrev one_row : ℕ → List (ℕ × ℕ) → Rows

@@ -1,15 +1,10 @@
 -- The lists of a map, as pairs and rows come to their ends.
-use Rattle.std.specs.Prelude.{◌≡◌, ◌⊎◌, List, [], ◌∷◌, ◌++◌, length, None}
-use Rattle.std.specs.Prelude.{Option, Some, Result, MatchResult}
+use Rattle.std.specs.Prelude.{List, [], ◌∷◌, ◌++◌, length}
 use Rattle.zv_map.specs.Maps.{keys_of, values_of}
 use Rattle.zv_map2d.specs.Causes.{Lists}
 use Rattle.zv_map2d.specs.Image.{by_bytes}
 use Rattle.zv_map2d.specs.Keys.{Bytes}
-use Rattle.zv_map2d.specs.Rows.{IsWell, Rows, ends, firsts, rows_of, seconds, values}
-use Rattle.zv_map2d.specs.Views.{Map2d}
-use Rattle.zv_map2d.specs.declared.error.Map2dError.{Map2dError}
-use Rattle.zv_map2d.specs.declared.error.Map2dError.TheVariants.{Memory}
-use Rattle.zv_layers.specs.Overlays.{refusal}
+use Rattle.zv_map2d.specs.Rows.{IsFlat, IsWell, Rows, ends, firsts, rows_of, seconds, values}
 
 -- the lists of a map
 abbrev pub columns_of : Rows → Lists
@@ -44,10 +39,5 @@ rows_in c = rows_of c.keys0 c.joiner c.keys1 c.values
 
 -- lists are those of rows in order
 pub record AreInOrder (c : Lists) : Type 0 where
-  pub columns : c ≡ columns_of (rows_in c)
+  pub flat : IsFlat c.keys0 c.joiner c.keys1 c.values (rows_in c)
   pub well : IsWell by_bytes by_bytes (rows_in c)
-
--- a map of these rows is built, none of whose pairs is refused, or why the first is that is
-abbrev pub IsBuilt : Rows → Result Map2d Map2dError → Type 0
-IsBuilt m result = MatchResult result (λ r. (r.rows ≡ m) × (refusal m ≡ None))
-    (λ e. (e ≡ Memory) ⊎ (refusal m ≡ Some e))

@@ -4,7 +4,6 @@ ghost use Rattle.std.specs.List.{All};
 ghost use Rattle.zv_ule.specs.Views.{element_of};
 ghost use Rattle.zv_owned.specs.Size.{takes_pushes};
 ghost use Rattle.zv_map.specs.declared.error.MapError.{MapError};
-ghost use Rattle.zv_layers.specs.Columns.{AreInOrder, IsBuilt, rows_in};
 
 use crate::walk::{Key, Value};
 use std::alloc::{AllocError, Global};
@@ -80,8 +79,12 @@ impl<'m> Model for Columns<'m> {
 }
 
 impl<'m> Columns<'m> {
-    ghost use Rattle.std.specs.Prelude.{◌∷◌, OnOk};
-    ghost use Rattle.zv_layers.specs.Columns.{columns_of, with_end, with_pairs};
+    ghost use Rattle.std.specs.Prelude.{◌∷◌, ◌≡◌, ◌⊎◌, [], IfErr, IfOk, None, OnOk, Some};
+    ghost use Rattle.zv_ule.specs.Views.{element_of};
+    ghost use Rattle.zv_map2d.specs.declared.error.Map2dError.{Map2dError};
+    ghost use Rattle.zv_layers.specs.Columns.{AreInOrder, columns_of, rows_in};
+    ghost use Rattle.zv_layers.specs.Columns.{with_end, with_pairs};
+    ghost use Rattle.zv_layers.specs.Overlays.{refusal};
 
     /// The lists of no rows. It takes no memory yet.
     pub fn new(alloc: Global) -> Self
@@ -121,7 +124,10 @@ impl<'m> Columns<'m> {
     /// order into the empty map, would be refused; or `Memory`.
     pub fn build(&self, alloc: Global) -> Result<ImageMap<'static>, Map2dError>
         requires { AreInOrder self.now }
-        ensures { IsBuilt (rows_in self.now) result }
+        ensures rows { IfOk result (λ m. m.rows ≡ rows_in self.now) }
+        ensures accepted { OnOk result (refusal (rows_in self.now) ≡ None) }
+        ensures refused { IfErr result (λ e. (e ≡ Map2dError.Memory)
+            ⊎ (refusal (rows_in self.now) ≡ Some e)) }
     {
         let keys0 = container_of(alloc, &self.keys0)?;
         let keys1 = container_of(alloc, &self.keys1)?;

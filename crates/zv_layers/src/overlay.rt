@@ -1,25 +1,22 @@
 // One map laid over another, by one walk over both.
 ghost use Rattle.std.specs.Prelude.{◌≡◌, ◌≤◌, ◌+◌, ◌<◌, ◌⊎◌, None, Some, IfErr, IfOk, OnOk};
 ghost use Rattle.std.specs.Prelude.{length};
-ghost use Rattle.zv_map.specs.Iters.{left_of};
+ghost use Rattle.zv_map.specs.Iters.{left_of, pair_of};
 ghost use Rattle.zv_map.specs.Maps.{IsMap};
 ghost use Rattle.zv_map2d.specs.Image.{by_bytes};
-ghost use Rattle.zv_map2d.specs.Rows.{seconds};
-ghost use Rattle.zv_layers.specs.Columns.{AreInOrder, columns_of, with_pairs, with_row};
+ghost use Rattle.zv_map2d.specs.Rows.{IsRow, seconds};
+ghost use Rattle.zv_layers.specs.Columns.{AreInOrder, rows_in, with_pairs, with_row};
 ghost use Rattle.zv_layers.specs.Overlays.{overlay, refusal};
-ghost use Rattle.zv_layers.specs.Walks.{AreRows, laid_pairs, pairs_of, row_of, upper_of};
+ghost use Rattle.zv_layers.specs.Walks.{HoldsOf, entry_of, laid_pairs, later, pair_count};
+ghost use Rattle.zv_layers.specs.Walks.{row_entry, seen, weight_of};
 
 use crate::columns::Columns;
-use crate::walk::{Next, Row, refill, take_next};
+use crate::walk::{Key, Next, Pairs, Row, Value, Walk};
 use std::alloc::Global;
 use std::marker::Brand;
 use std::sync::ledger::{Blank, Ledger};
-use zv_map::FlexULE;
-use zv_map2d::{ImageMap, Iter1, Map2dError};
-use zv_ule::{NoMemory, SliceULE, Steps, StrULE};
-
-/// The pairs of a row of an image's map.
-type Pairs<'m> = Iter1<'m, FlexULE<StrULE>, FlexULE<SliceULE<u8>>>;
+use zv_map2d::{ImageMap, Map2dError};
+use zv_ule::{NoMemory, Steps};
 
 // Adds the pairs of a row.
 fn add_row<'m>(columns: &mut Columns<'m>, pairs: Pairs<'m>) -> Result<(), NoMemory>
@@ -31,9 +28,9 @@ fn add_row<'m>(columns: &mut Columns<'m>, pairs: Pairs<'m>) -> Result<(), NoMemo
     Ok(())
 }
 
-// What counts.
-fn upper_of<T: Drop>(next: Next<T>) -> T
-    ensures { result ≡ upper_of next }
+// The pair that counts.
+fn upper_of<'m>(next: Next<(Key<'m>, Value<'m>)>) -> (Key<'m>, Value<'m>)
+    ensures { pair_of result ≡ entry_of later (seen pair_of next.entry) }
 {
     match next {
         Next::One(over) => over,
@@ -44,8 +41,8 @@ fn upper_of<T: Drop>(next: Next<T>) -> T
 // Adds the pairs of two rows of one first key, those of the upper row where both have one.
 fn add_both<'m, L: Ledger>(
     columns: &mut Columns<'m>,
-    mut base: Pairs<'m>,
-    mut over: Pairs<'m>,
+    base: Pairs<'m>,
+    over: Pairs<'m>,
     steps: &mut Steps<L>,
 ) -> Result<(), NoMemory>
     requires base { IsMap by_bytes (left_of base) }
@@ -56,13 +53,10 @@ fn add_both<'m, L: Ledger>(
         ≤ steps.old + length (left_of base.entry) + length (left_of over.entry) }
     ensures counted { steps.old ≤ steps.new }
 {
-    let mut lower = base.next();
-    let mut upper = over.next();
-    while let Some(next) = take_next(&mut lower, &mut upper, steps) {
+    let mut walk = Walk::new(base, over);
+    while let Some(next) = walk.next(steps) {
         let (key1, value) = upper_of(next);
         columns.add(key1, value)?;
-        lower = refill(lower, &mut base);
-        upper = refill(upper, &mut over);
     }
     Ok(())
 }
@@ -73,9 +67,10 @@ fn add_next<'m, L: Ledger>(
     next: Next<Row<'m, '_>>,
     steps: &mut Steps<L>,
 ) -> Result<(), NoMemory>
-    requires { AreRows next }
-    ensures row { OnOk result (columns.new ≡ with_row columns.old (row_of next.entry)) }
-    ensures steps { steps.new ≤ steps.old + pairs_of next.entry }
+    requires { HoldsOf (IsRow by_bytes) (seen row_entry next) }
+    ensures row { OnOk result (columns.new
+        ≡ with_row columns.old (entry_of laid_pairs (seen row_entry next.entry))) }
+    ensures steps { steps.new ≤ steps.old + weight_of pair_count (seen row_entry next.entry) }
     ensures counted { steps.old ≤ steps.new }
 {
     match next {
@@ -97,7 +92,7 @@ fn gather<'m, L: Ledger>(
     over: &'m ImageMap<'_>,
     steps: &mut Steps<L>,
 ) -> Result<Columns<'m>, NoMemory>
-    ensures columns { IfOk result (λ c. c ≡ columns_of (overlay base.now.rows over.now.rows)) }
+    ensures rows { IfOk result (λ c. rows_in c ≡ overlay base.now.rows over.now.rows) }
     ensures in_order { IfOk result AreInOrder }
     ensures steps { steps.new ≤ steps.old + (length base.now.rows + length (seconds base.now.rows))
         + (length over.now.rows + length (seconds over.now.rows)) }
@@ -106,14 +101,9 @@ fn gather<'m, L: Ledger>(
     base.in_order();
     over.in_order();
     let mut columns = Columns::new(alloc);
-    let mut base_rows = base.as_borrowed().iter0();
-    let mut over_rows = over.as_borrowed().iter0();
-    let mut lower = base_rows.next();
-    let mut upper = over_rows.next();
-    while let Some(next) = take_next(&mut lower, &mut upper, steps) {
+    let mut walk = Walk::new(base.as_borrowed().iter0(), over.as_borrowed().iter0());
+    while let Some(next) = walk.next(steps) {
         add_next(&mut columns, next, steps)?;
-        lower = refill(lower, &mut base_rows);
-        upper = refill(upper, &mut over_rows);
     }
     Ok(columns)
 }

@@ -1,12 +1,14 @@
 // Two ascending lists, walked side by side.
-ghost use Rattle.std.specs.Prelude.{◌≡◌, ◌≤◌, ◌+◌, List, ℕ, MatchOption};
+ghost use Rattle.std.specs.Prelude.{◌≡◌, ◌≤◌, ◌+◌, ◌++◌, List, [], None, ℕ, map, length};
+ghost use Rattle.std.specs.Iterator.{YieldsFirstBy};
+ghost use Rattle.std.specs.Option.{option_map};
 ghost use Rattle.zv_ule.specs.Views.{element_of};
-ghost use Rattle.zv_layers.specs.Walks.{count_of, next_of};
+ghost use Rattle.zv_layers.specs.Walks.{ahead, lengths, lists_left, next_of, seen};
 
 use std::cmp::Ordering;
 use std::sync::ledger::Ledger;
 use zv_map::FlexULE;
-use zv_map2d::ZeroMap2dCursor;
+use zv_map2d::{Iter1, ZeroMap2dCursor, ZeroMap2dIter0};
 use zv_ule::{SliceULE, Steps, StrULE, VarRef, ZvOrdArg};
 
 /// A key of an image's map.
@@ -24,29 +26,79 @@ pub(crate) type Row<'m, 'a> = ZeroMap2dCursor<
     FlexULE<SliceULE<u8>>,
 >;
 
-/// What has a key.
-pub(crate) trait Keyed: Drop {
-    /// The key.
-    ghost key: { Self → List ℕ };
+/// The rows of an image's map.
+pub(crate) type RowsLeft<'m, 'a> = ZeroMap2dIter0<
+    'm,
+    'a,
+    FlexULE<StrULE>,
+    FlexULE<StrULE>,
+    FlexULE<SliceULE<u8>>,
+>;
 
-    /// The key.
-    fn key(&self) -> Key<'_>
-        ensures { element_of result ≡ key self.now };
+/// The pairs of a row of an image's map.
+pub(crate) type Pairs<'m> = Iter1<'m, FlexULE<StrULE>, FlexULE<SliceULE<u8>>>;
+
+/// A list of entries, each of which has a key.
+pub(crate) trait Entries: Drop {
+    /// An entry.
+    type Entry: Drop;
+
+    /// What a key has.
+    ghost Content: { Type 0 };
+
+    /// An entry's key, and what that has.
+    ghost pair: { Self.Entry → List ℕ × Content };
+
+    /// What is left of the list.
+    ghost left: { Self → List (List ℕ × Content) };
+
+    /// Takes the first entry.
+    fn take_first(&mut self) -> Option<Self::Entry>
+        ensures { YieldsFirstBy pair left self.old result self.new };
+
+    /// An entry's key.
+    fn key(entry: &Self::Entry) -> Key<'_>
+        ensures { element_of result ≡ (pair entry.now).0 };
 }
 
-impl Keyed for Row<'_, '_> {
-    ghost key = { λ r. r.key };
+impl<'m, 'a> Entries for RowsLeft<'m, 'a> {
+    ghost use Rattle.zv_map2d.specs.RowIters.{rows_left};
+    ghost use Rattle.zv_layers.specs.Walks.{row_entry};
 
-    fn key(&self) -> Key<'_> {
-        self.key0()
+    type Entry = Row<'m, 'a>;
+
+    ghost Content = { List (List ℕ × List ℕ) };
+
+    ghost pair = { row_entry };
+
+    ghost left = { λ i. map row_entry (rows_left i) };
+
+    fn take_first(&mut self) -> Option<Self::Entry> {
+        self.next()
+    }
+
+    fn key(entry: &Self::Entry) -> Key<'_> {
+        entry.key0()
     }
 }
 
-impl Keyed for (Key<'_>, Value<'_>) {
-    ghost key = { λ p. element_of p.0 };
+impl<'m> Entries for Pairs<'m> {
+    ghost use Rattle.zv_map.specs.Iters.{left_of, pair_of};
 
-    fn key(&self) -> Key<'_> {
-        self.0
+    type Entry = (Key<'m>, Value<'m>);
+
+    ghost Content = { List ℕ };
+
+    ghost pair = { pair_of };
+
+    ghost left = { left_of };
+
+    fn take_first(&mut self) -> Option<Self::Entry> {
+        self.next()
+    }
+
+    fn key(entry: &Self::Entry) -> Key<'_> {
+        entry.0
     }
 }
 
@@ -59,43 +111,67 @@ pub(crate) enum Next<T> {
     Both(T, T),
 }
 
-/// Takes what has the least key of the heads of two lists, or both where they have the same key.
-/// It makes a comparison where there are two heads.
-pub(crate) fn take_next<T: Keyed, L: Ledger>(
-    lower: &mut Option<T>,
-    upper: &mut Option<T>,
-    steps: &mut Steps<L>,
-) -> Option<Next<T>>
-    ensures next { (result, lower.new, upper.new) ≡ next_of T.key lower.old upper.old }
-    ensures steps { steps.new ≤ steps.old + count_of result }
-    ensures counted { steps.old ≤ steps.new }
-{
-    let (base, over) = match (lower.take(), upper.take()) {
-        (Some(base), Some(over)) => (base, over),
-        (Some(one), None) | (None, Some(one)) => return Some(Next::One(one)),
-        (None, None) => return None,
-    };
-    match base.key().arg_compare(over.key().as_bytes(), steps) {
-        Ordering::Less => {
-            *lower = Some(base);
-            Some(Next::One(over))
-        }
-        Ordering::Equal => Some(Next::Both(base, over)),
-        Ordering::Greater => {
-            *upper = Some(over);
-            Some(Next::One(base))
-        }
-    }
+/// What is left of two ascending lists, of each of which an entry may be at hand.
+#[derive(Drop)]
+pub(crate) struct Walk<T, I> {
+    lower: Option<T>,
+    base: I,
+    upper: Option<T>,
+    over: I,
 }
 
-/// The head of a list, or what comes next where it has none.
-pub(crate) fn refill<I: Iterator>(head: Option<I::Item>, rest: &mut I) -> Option<I::Item>
-    requires { I.can_next rest.old }
-    ensures { MatchOption head (I.next_gives rest.old result rest.new)
-        (λ _. (result ≡ head) × (rest.new ≡ rest.old)) }
+// The entry at hand, or else the first of the list.
+fn refill<I: Entries>(head: Option<I::Entry>, rest: &mut I) -> Option<I::Entry>
+    ensures all { ahead I.pair head (I.left rest.old) ≡ ahead I.pair result (I.left rest.new) }
+    ensures none { result ≡ None → I.left rest.new ≡ [] }
 {
     match head {
         Some(head) => Some(head),
-        None => rest.next(),
+        None => rest.take_first(),
+    }
+}
+
+impl<I: Entries> Walk<I::Entry, I> {
+    /// All of two lists.
+    pub fn new(base: I, over: I) -> Self
+        ensures { lists_left I.pair I.left result ≡ (I.left base, I.left over) }
+    {
+        Walk {
+            lower: None,
+            base,
+            upper: None,
+            over,
+        }
+    }
+
+    /// Takes what has the least key, of both lists where both have it. It makes a comparison where
+    /// there are two.
+    pub fn next<L: Ledger>(&mut self, steps: &mut Steps<L>) -> Option<Next<I::Entry>>
+        ensures next { (option_map (seen I.pair) result, lists_left I.pair I.left self.new)
+            ≡ next_of (lists_left I.pair I.left self.old) }
+        ensures steps { steps.new + lengths (lists_left I.pair I.left self.new)
+            ≤ steps.old + lengths (lists_left I.pair I.left self.old) }
+        ensures counted { steps.old ≤ steps.new }
+    {
+        let (base, over) = match (
+            refill(self.lower.take(), &mut self.base),
+            refill(self.upper.take(), &mut self.over),
+        ) {
+            (Some(base), Some(over)) => (base, over),
+            (Some(base), None) => return Some(Next::One(base)),
+            (None, Some(over)) => return Some(Next::One(over)),
+            (None, None) => return None,
+        };
+        match I::key(&base).arg_compare(I::key(&over).as_bytes(), steps) {
+            Ordering::Less => {
+                self.lower = Some(base);
+                Some(Next::One(over))
+            }
+            Ordering::Equal => Some(Next::Both(base, over)),
+            Ordering::Greater => {
+                self.upper = Some(over);
+                Some(Next::One(base))
+            }
+        }
     }
 }

@@ -1,4 +1,4 @@
-use Rattle.zv_layers.proofs.Common.{◌≡◌, [], take, drop, map, element_of, takes_pushes}
+use Rattle.zv_layers.proofs.Common.{◌≡◌, [], drop, element_of, map, take, takes_pushes}
 use Rattle.zv_layers.proofs.columns.container_of.Given as goal
 
 abbrev pub invariant-loop-element : goal.invariant-loop-element

@@ -1,4 +1,4 @@
-use Rattle.zv_layers.proofs.Common.{◌+◌, ap, arith, bytes_of_all, refl, rules, drop_all}
+use Rattle.zv_layers.proofs.Common.{◌+◌, ap, arith, bytes_of_all, drop_all, refl, rules}
 use Rattle.zv_layers.proofs.Laying.{all_laid, next_image, none_yet, one_more, one_refused}
 use Rattle.zv_layers.proofs.form.lay_all.Goals as goal
 

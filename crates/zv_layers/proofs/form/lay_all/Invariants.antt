@@ -1,4 +1,4 @@
-use Rattle.zv_layers.proofs.Common.{◌≡◌, ◌+◌, ◌∷◌, bytes_of_all, drop}
+use Rattle.zv_layers.proofs.Common.{◌+◌, ◌∷◌, ◌≡◌, bytes_of_all, drop}
 use Rattle.zv_layers.proofs.Laying.{SoFar}
 use Rattle.zv_layers.proofs.form.lay_all.Given as goal
 

@@ -1,4 +1,5 @@
-use Rattle.zv_layers.proofs.Common.{refl, rules, tells_sent}
+use Rattle.zv_layers.proofs.Common.{refl, rules}
+use Rattle.zv_command.proofs.Telling.{tells_sent}
 use Rattle.zv_layers.proofs.form.refuse_layer.Goals as goal
 
 pub returns : goal.returns

@@ -1,16 +1,25 @@
-use Rattle.zv_layers.proofs.Common.{◌∙◌, [], ◌∷◌, ap, arith, sym, with_pairs}
-use Rattle.zv_layers.proofs.Steps.{pair_is, pairs_spent, pairs_walk}
-use Rattle.zv_layers.proofs.Walks.{shrinks, turns}
+use Rattle.zv_layers.proofs.Common.{◌∙◌, ◌∷◌, [], ap, arith, later, sym, with_pairs, ⊤}
+use Rattle.zv_layers.proofs.Gathered.{no_pairs, pair_added}
+use Rattle.zv_layers.proofs.Laid.{anything, none_left, took}
 use Rattle.zv_layers.proofs.overlay.add_both.Goals as goal
 
 pub loop-next-smaller : goal.loop-next-smaller
 loop-next-smaller g c =
-    shrinks pairs_walk c.loop-next.invariant c.in-Some.ensures.next c.refill-lower.new.rest c.refill-upper.new.rest c.refill-lower.result
-    c.refill-upper.result c.refill-lower.ensures c.refill-upper.ensures (pairs_spent c.in-Some.next)
+    let at = c.loop-next.invariant in (took later (λ p. ⊤) c.in-Some.ensures.next (at.base, anything _) (at.over, anything _)).fewer
 
 pub loop-next-preserved : goal.loop-next-preserved
 loop-next-preserved g c =
-    turns pairs_walk c.loop-next.invariant c.in-Some.ensures.next c.refill-lower.new.rest c.refill-upper.new.rest c.refill-lower.result
-    c.refill-upper.result c.refill-lower.ensures c.refill-upper.ensures
-    ((rw c.upper_of.ensures at c.in_ok-add.ensures) ∙ ap (λ e. with_pairs c.loop-next.columns (e ∷ [])) (sym (pair_is c.in-Some.next)))
-    (omega (arith, c.in-Some.ensures.steps, pairs_spent c.in-Some.next)) c.in-Some.ensures.counted
+    let at = c.loop-next.invariant in
+    let t = took later (λ p. ⊤) c.in-Some.ensures.next (at.base, anything _) (at.over, anything _) in record {
+      base = t.base.0;
+      over = t.over.0;
+      rest = pair_added c.loop-next.columns (c.in_ok-add.ensures ∙ ap (λ p. with_pairs c.loop-next.columns (p ∷ [])) c.upper_of.ensures) t ∙ at.rest;
+      counted = omega (arith, at.counted, c.in-Some.ensures.counted);
+      paid = omega (arith, at.paid, c.in-Some.ensures.steps);
+    }
+
+pub returns-clause-pairs : goal.returns-clause-pairs
+returns-clause-pairs g c =
+    let at = c.loop-next.invariant in
+    let none = none_left later (λ p. ⊤) _ c.in_default.ensures.next (at.base, anything _) (at.over, anything _) in
+    sym (no_pairs c.loop-next.columns) ∙ ap (with_pairs c.loop-next.columns) (sym none) ∙ at.rest

@@ -1,13 +1,10 @@
-use Rattle.zv_layers.proofs.Common.{◌+◌, columns_of, overlay}
-use Rattle.zv_layers.proofs.Steps.{count, rows_walk}
-use Rattle.zv_layers.proofs.Walks.{Loop, cost_from}
+use Rattle.zv_layers.proofs.Common.{lengths, lists_left, map, row_entry, rows_left}
+use Rattle.zv_layers.proofs.Gathered.{Loop}
 use Rattle.zv_layers.proofs.overlay.gather.Given as goal
 
--- with the rows that are left of both it is what it is with all
+-- the rows so far, with what is left of both maps
 abbrev pub invariant-loop-next : goal.invariant-loop-next
-invariant-loop-next g l =
-    Loop rows_walk l.lower l.upper l.base_rows l.over_rows l.columns l.steps l.initial.steps
-    (l.initial.steps + count l.base.rows + count l.over.rows) (columns_of (overlay l.base.rows l.over.rows))
+invariant-loop-next g l = Loop l.columns (lists_left row_entry (λ i. map row_entry (rows_left i)) l.walk) l.base.rows l.over.rows l.steps l.initial.steps
 
 abbrev pub decreases-loop-next : goal.decreases-loop-next
-decreases-loop-next g l = cost_from rows_walk l.lower l.base_rows + cost_from rows_walk l.upper l.over_rows
+decreases-loop-next g l = lengths (lists_left row_entry (λ i. map row_entry (rows_left i)) l.walk)

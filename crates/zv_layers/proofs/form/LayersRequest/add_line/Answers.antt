@@ -1,4 +1,5 @@
-use Rattle.zv_layers.proofs.Common.{arith, length, common_steps, sum_by_push, field_is}
+use Rattle.zv_layers.proofs.Common.{arith, field_is, length, sum_by_push}
+use Rattle.std.proofs.lemmas.Grind.{common_steps}
 use Rattle.zv_layers.proofs.form.LayersRequest.add_line.Goals as goal
 
 pub returns-clause-size : goal.returns-clause-size

@@ -1,4 +1,5 @@
-use Rattle.zv_layers.proofs.Common.{◌≡◌, ap, bytes_of_all, rules, answers}
+use Rattle.zv_layers.proofs.Common.{◌≡◌, ap, bytes_of_all, rules}
+use Rattle.zv_edit.specs.Answers.{answers}
 use Rattle.zv_layers.proofs.Laying.{answered, due_fault}
 use Rattle.zv_layers.proofs.form.LayersRequest.answer.Goals as goal
 
