@@ -109,7 +109,7 @@ fn insert<
         value.now) (insert_entry K.cmp map.old.pairs key.now value.now)) result }
 {
     let _ = (key.as_bytes().len(), value.as_bytes().len());
-    map.insert(alloc, key, value).map_err(refusal_of)?;
+    map.append_or_insert(alloc, key, value).map_err(refusal_of)?;
     Ok(())
 }
 

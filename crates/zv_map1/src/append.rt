@@ -79,9 +79,16 @@ impl<
         Ok(None)
     }
 
-    /// Gives a key a value, at the end where the key is above all.
+    /// Gives a key a value, at the end where the key is above all, and gives back the value that it
+    /// had.
+    ///
+    /// # Errors
+    /// As [`insert`](Self::insert).
+    ///
+    /// # Cost
+    /// One comparison where the key is above all, and nothing is moved; else one more than `insert`.
     #[tactic(auto, using(crate::proofs::Appended::none_above))]
-    fn put<Q: ZvOrdArg<K>, R: ZvArg<V>>(
+    pub fn append_or_insert<Q: ZvOrdArg<K>, R: ZvArg<V>>(
         &mut self,
         alloc: Global,
         key: &Q,
@@ -91,14 +98,20 @@ impl<
         requires value { length (R.bytes value.now) < 2 ^ 64 }
         ensures pairs { OnOk result (self.new.pairs ≡ insert_entry K.cmp self.old.pairs
             (Q.bytes key.now) (R.bytes value.now)) }
+        ensures before { IfOk result (λ old. option_map D.OwnedType.bytes old
+            ≡ look_up K.cmp self.old.pairs (Q.bytes key.now)) }
+        ensures owned { OnOk result (KeepsOwned self.old self.new) }
+        ensures err { OnErr result (IsSameMap self.old self.new) }
+        ensures unchanged { IfErr result (λ e. (e ≡ MapError.Memory → ⊥) → self.new ≡ self.old) }
         ensures refused { TooLargeUnless
             (fits (rule_of C.takes_insert D.takes_insert D.takes_replace) K.cmp self.old.pairs
             (Q.bytes key.now) (R.bytes value.now)) result }
     {
-        if !self.is_above(key) {
-            return self.insert(alloc, key, value);
+        if self.is_above(key) {
+            self.add(alloc, self.len(), key, value)
+        } else {
+            self.insert(alloc, key, value)
         }
-        self.add(alloc, self.len(), key, value)
     }
 
     /// The map of pairs in any order, with the last value given for each key.
@@ -126,7 +139,7 @@ impl<
     {
         let mut map = Self::new();
         for pair in pairs {
-            let _ = map.put(alloc, &pair.0, &pair.1)?;
+            let _ = map.append_or_insert(alloc, &pair.0, &pair.1)?;
         }
         Ok(map)
     }

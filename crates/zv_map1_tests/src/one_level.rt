@@ -49,6 +49,9 @@ where
     assert!(rt; map.insert_var_v(alloc, &2, &"y")?.is_none());
     assert!(rt; map.try_append(alloc, &2, &"z")? == Some((&2, &"z")));
     assert!(rt; map.try_append(alloc, &7, &"z")?.is_none());
+    assert!(rt; map.append_or_insert(alloc, &9, &"n")?.is_none());
+    assert!(rt; was(map.append_or_insert(alloc, &9, &"m")?, "n"));
+    assert!(rt; was(map.remove(alloc, &9)?, "m"));
     assert!(rt; was(map.remove(alloc, &1)?, "x"));
     assert!(rt; map.remove(alloc, &1)?.is_none());
     Ok(())
