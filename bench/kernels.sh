@@ -8,9 +8,10 @@
 # hashes.txt print; its checksums are the same where it makes the same lists. What it prints of parse_text is the validation
 # of 10,000 texts.
 #
-# The timing programs, bench/timing.txt, changes.txt, tables.txt, hashes.txt, ranges.txt, records.txt and frames.txt, are Rattle crates that are
-# no part of the gate. They are proved and built in bench/out, a copy of the sources with the libraries that the tree has built (`.ci/run`,
-# `./zv --prove` and `rt lib` leave them), and stay there: what didn't change is not built again. Each is run as soon as it is built.
+# The timing programs, bench/timing.txt, changes.txt, tables.txt, hashes.txt, ranges.txt, records.txt, frames.txt and json_forms.txt, are
+# Rattle crates that are no part of the gate. They are proved and built in bench/out, a copy of the sources with the libraries that the
+# tree has built (`.ci/run`, `./zv --prove` and `rt lib` leave them), and stay there: what didn't change is not built again. Each is run as
+# soon as it is built.
 set -euo pipefail
 top=$(cd "$(dirname "$0")/.." && pwd)
 copy=$top/bench/out
@@ -77,10 +78,11 @@ build hashes 'zv_hashmap zv_hash zv_ule'
 build ranges 'zv_props zv_ule'
 build records 'zv_multi zv_owned zv_ule'
 build frames 'zv_framed zv_map1 zv_owned zv_fixed zv_var zv_ule'
+build json_forms 'zv_forms zv_map1 zv_fixed zv_ule serde_json'
 beside "${1-}"
 say "all once more"
 echo "-- this repository"
-for name in timing changes tables hashes ranges records frames; do
+for name in timing changes tables hashes ranges records frames json_forms; do
     "$copy/crates/zv_$name/out/zv_$name"
 done
 beside "${1-}"

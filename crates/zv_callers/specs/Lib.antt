@@ -1,3 +1,4 @@
+pub mod Documents
 pub mod Files
 pub mod Images
 pub mod Languages

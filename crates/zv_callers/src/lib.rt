@@ -2,6 +2,7 @@
 #![tactic(auto)]
 
 pub mod codes;
+pub mod documents;
 pub mod files;
 pub mod images;
 pub mod languages;
