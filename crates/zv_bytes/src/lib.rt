@@ -11,9 +11,10 @@ const BLOCK: usize = 1024;
 /// Copies `bytes[from..end]` to the place `to`, as `bytes.copy_within(from..end, to)` does. The two
 /// ranges may overlap.
 ///
-/// It takes time in proportion to `end - from`, and no memory but 1024 bytes of the stack. Whole
-/// blocks of 1024 bytes go by the C library's `memmove`, and what is left by `copy_within`, which
-/// is a loop over bytes and slower for many.
+/// It takes time in proportion to `end - from`, and no memory but 1024 bytes of the stack. Bytes
+/// that move by 2 or 4, as the width of a field is, go by one call of the C library's `memmove`. Of
+/// others whole blocks of 1024 bytes go so, and what is left by `copy_within`, which is a loop over
+/// bytes and slower for many.
 #[inline]
 pub fn copy_bytes(bytes: &mut [u8], from: usize, end: usize, to: usize)
     requires order { from ≤ end }
@@ -22,10 +23,82 @@ pub fn copy_bytes(bytes: &mut [u8], from: usize, end: usize, to: usize)
     ensures { bytes.new ≡ copy_within bytes.old from end to }
 {
     if to <= from {
-        copy_down(bytes, from, end, to);
+        move_down(bytes, from, end, to);
     } else {
-        copy_up(bytes, from, end, to);
+        move_up(bytes, from, end, to);
     }
+}
+
+/// Copies to a lower place.
+#[inline]
+fn move_down(bytes: &mut [u8], from: usize, end: usize, to: usize)
+    requires order { from ≤ end }
+    requires inside { end ≤ length bytes.old }
+    requires lower { to ≤ from }
+    ensures { bytes.new ≡ copy_within bytes.old from end to }
+{
+    match from - to {
+        2 => lower_by::<2>(bytes, end, to),
+        4 => lower_by::<4>(bytes, end, to),
+        _ => copy_down(bytes, from, end, to),
+    }
+}
+
+/// Copies to a higher place.
+#[inline]
+fn move_up(bytes: &mut [u8], from: usize, end: usize, to: usize)
+    requires order { from ≤ end }
+    requires higher { from ≤ to }
+    requires target { to + (end - from) ≤ length bytes.old }
+    ensures { bytes.new ≡ copy_within bytes.old from end to }
+{
+    match to - from {
+        2 => raise_by::<2>(bytes, from, end),
+        4 => raise_by::<4>(bytes, from, end),
+        _ => copy_up(bytes, from, end, to),
+    }
+}
+
+/// Copies to a place that is lower by `N`.
+#[inline]
+#[tactic(auto, using(crate::proofs::Copies::lower_rest))]
+fn lower_by<const N: usize>(bytes: &mut [u8], end: usize, to: usize)
+    requires order { to + N ≤ end }
+    requires inside { end ≤ length bytes.old }
+    ensures { bytes.new ≡ copy_within bytes.old (to + N) end to }
+{
+    let (_, rest) = bytes.split_at_mut(to);
+    to_front::<N>(rest, end - to);
+}
+
+/// Copies to a place that is higher by `N`.
+#[inline]
+#[tactic(auto, using(crate::proofs::Copies::raise_rest))]
+fn raise_by<const N: usize>(bytes: &mut [u8], from: usize, end: usize)
+    requires order { from ≤ end }
+    requires inside { end + N ≤ length bytes.old }
+    ensures { bytes.new ≡ copy_within bytes.old from end (from + N) }
+{
+    let (_, rest) = bytes.split_at_mut(from);
+    from_front::<N>(rest, end - from);
+}
+
+/// Copies the bytes from the place `N` up to `end` to the front. It is a function of its own so
+/// that the compiler sees one call in it: it knows both places.
+fn to_front<const N: usize>(bytes: &mut [u8], end: usize)
+    requires order { N ≤ end }
+    requires inside { end ≤ length bytes.old }
+    ensures { bytes.new ≡ copy_within bytes.old N end 0 }
+{
+    bytes.copy_within(N..end, 0);
+}
+
+/// Copies the first `n` bytes to the place `N`, as [`to_front`].
+fn from_front<const N: usize>(bytes: &mut [u8], n: usize)
+    requires { n + N ≤ length bytes.old }
+    ensures { bytes.new ≡ copy_within bytes.old 0 n N }
+{
+    bytes.copy_within(0..n, N);
 }
 
 /// Copies to a lower place, the first block first.

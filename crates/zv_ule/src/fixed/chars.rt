@@ -1,10 +1,12 @@
 // Characters, stored in three bytes.
-ghost use Rattle.std.specs.Prelude.{◌≡◌, ◌<◌, None, length, true, refl, map};
+ghost use Rattle.std.specs.Prelude.{◌≡◌, ℕ, ◌<◌, ◌≤◌, None, [], ◌∷◌, length, true, refl, map};
+ghost use Rattle.std.specs.Prelude.{is_none};
 ghost use Rattle.std.specs.Char.{IsScalar};
 ghost use Rattle.std.specs.Cmp.{on_total, nat_cmp_total};
 ghost use Rattle.std.specs.Ordering.{on, nat_cmp};
 ghost use Rattle.zv_ule.specs.Chars.{char_bytes, char_code, char_of, char_fault, char_spelling};
 ghost use Rattle.zv_ule.specs.Chars.{char_twin};
+ghost use Rattle.zv_ule.specs.Chunks.{chunks, first_fault};
 ghost use Rattle.zv_ule.specs.Kinds.{one_fault};
 ghost use Rattle.zv_ule.specs.declared.error.TyName.TheVariants.{Char};
 
@@ -60,6 +62,30 @@ fn code_of(bytes: &[u8]) -> u32
     u32::from_le_bytes([bytes[0], bytes[1], bytes[2], 0])
 }
 
+/// Whether three bytes are a character's, where the last two are these. The first may be any.
+#[inline]
+fn ends_character(middle: u8, high: u8) -> bool
+    ensures { (low : ℕ) → low < 256 → result ≡ is_none (char_fault (low ∷ middle ∷ high ∷ [])) }
+{
+    !((high > 0x10) | ((high == 0) & (middle >= 0xD8) & (middle < 0xE0)))
+}
+
+/// Whether the first 16 chunks are all good. It looks at the two bytes after each byte, and passes
+/// over what it saw where the byte begins no chunk. So neighbouring steps read neighbouring bytes,
+/// and a compiler takes 16 of them at once, which it can't do with every third byte.
+#[inline]
+fn is_good_block(bytes: &[u8]) -> bool
+    requires { 50 ≤ length bytes.now }
+    ensures { result ≡ is_none (first_fault char_fault (chunks 3 16 bytes.now)) }
+{
+    let mut good = true;
+    for index in 0..48 {
+        let ends = ends_character(bytes[index + 1], bytes[index + 2]);
+        good = good & ((index % 3 != 0) | ends);
+    }
+    good
+}
+
 impl ULE for CharULE {
     const TY: TyName = TyName::Char;
 
@@ -93,9 +119,24 @@ impl ULE for CharULE {
 
     #[inline]
     fn is_good_chunk(bytes: &[u8]) -> bool {
-        let middle = bytes[1];
-        let high = bytes[2];
-        !((high > 0x10) | ((high == 0) & (middle >= 0xD8) & (middle < 0xE0)))
+        ends_character(bytes[1], bytes[2])
+    }
+
+    fn are_good_chunks(bytes: &[u8]) -> bool {
+        let mut good = true;
+        let mut rest = bytes;
+        // A block is 48 bytes, and two more are read after the last byte.
+        while rest.len() >= 50 {
+            good = good & is_good_block(rest);
+            let (_, others) = rest.split_at(48);
+            rest = others;
+        }
+        for index in 0..rest.len() / 3 {
+            let (chunk, after) = rest.split_at(3);
+            good = good & Self::is_good_chunk(chunk);
+            rest = after;
+        }
+        good
     }
 
     #[inline]
