@@ -1,45 +1,14 @@
 // The lists of a map, gathered at their ends and then written at once.
-ghost use Rattle.std.specs.Prelude.{◌≡◌, ◌<◌, [], IfErr, IfOk, IsTrue, false, map, true};
+ghost use Rattle.std.specs.Prelude.{◌≡◌, ◌<◌, IfOk};
 ghost use Rattle.std.specs.List.{All};
-ghost use Rattle.zv_ule.specs.Views.{element_of};
-ghost use Rattle.zv_owned.specs.Size.{takes_pushes};
-ghost use Rattle.zv_map.specs.declared.error.MapError.{MapError};
 
 use crate::walk::{Key, Value};
 use std::alloc::{AllocError, Global};
 use std::marker::Model;
 use zv_fixed::ZeroVec;
-use zv_map::{MapError, MutableZeroVecLike};
+use zv_map::container_of;
 use zv_map2d::{ImageMap, Map2dError};
-use zv_ule::{NoMemory, VarRef, ZvKind};
-
-// The container of elements, in their order: written at once, or else pushed one after another.
-// Where it would be too large, memory may be refused first.
-fn container_of<'a, T: ZvKind, C: MutableZeroVecLike<'a, T>>(
-    alloc: Global,
-    elements: &[VarRef<'_, T>],
-) -> Result<C, MapError>
-    requires { IsTrue T.usable }
-    ensures list { IfOk result (λ c. C.list c ≡ map element_of elements.now) }
-    ensures taken { IfOk result (λ _. takes_pushes C.takes_insert []
-        (map element_of elements.now) ≡ true) }
-    ensures refused { IfErr result (λ e. e ≡ MapError.TooLarge →
-        takes_pushes C.takes_insert [] (map element_of elements.now) ≡ false) }
-{
-    let mut list = C::zvl_new();
-    if list.zvl_write_elements(alloc, elements)? {
-        return if list.zvl_takes_elements() {
-            Ok(list)
-        } else {
-            Err(MapError::TooLarge)
-        };
-    }
-    for element in elements {
-        let _len = element.as_bytes().len();
-        list.zvl_push(alloc, element)?;
-    }
-    Ok(list)
-}
+use zv_ule::NoMemory;
 
 // The ends of rows as the numbers of a joiner.
 fn joiner_of(alloc: Global, ends: &[usize]) -> Result<ZeroVec<'static, u32>, NoMemory>

@@ -1,10 +1,11 @@
 // The elements of a view, and the pairs of two views, in order.
 #![tactic(auto, using(crate::proofs::Ranges::pairs))]
 
-ghost use Rattle.std.specs.Prelude.{◌≡◌, ℕ, ◌≤◌, length, zip, slice_range, IfSome, Some};
+ghost use Rattle.std.specs.Prelude.{◌≡◌, ℕ, ◌≤◌, length, take, zip, slice_range, IfSome, Some};
 ghost use Rattle.std.specs.Iterator.{UpTo, YieldsFirstBy, YieldsLastBy};
 ghost use Rattle.std.specs.Iterator.{item_count};
 ghost use Rattle.std.specs.Iterator.SizeHint.{IsWithinCount};
+ghost use Rattle.std.specs.List.{concat};
 ghost use Rattle.zv_map.specs.Views.{list_of};
 
 use crate::view::KvSlice;
@@ -12,14 +13,17 @@ use zv_ule::{VarRef, ZvKind};
 
 // ---- the elements of one view
 
-/// The elements of a view that are left to come, in order. It reads each where it lies.
+/// The elements of a view that are left to come, in order. It reads each where it lies, and each
+/// start once.
 #[derive(Drop)]
 pub struct KvSliceIter<'l, T: ZvKind> {
     list: KvSlice<'l, T>,
     next: usize,
+    start: usize,
     end: usize,
     pub ghost order: { next ≤ end },
     pub ghost within: { end ≤ length (list_of list) },
+    pub ghost starts: { start ≡ length (concat (take next (list_of list))) },
 }
 
 /// The keys of a map, in order.
@@ -39,6 +43,7 @@ impl<'l, T: ZvKind> KvSlice<'l, T> {
         KvSliceIter {
             list: self,
             next: 0,
+            start: 0,
             end: self.len(),
         }
     }
@@ -60,8 +65,10 @@ impl<'l, T: ZvKind> Iterator for KvSliceIter<'l, T> {
         if at == self.end {
             return None;
         }
+        let (element, start) = self.list.element_from(at, self.start);
         self.next = at + 1;
-        Some(self.list.at(at))
+        self.start = start;
+        Some(element)
     }
 
     #[inline]
@@ -102,16 +109,20 @@ impl<T: ZvKind> ExactSizeIterator for KvSliceIter<'_, T> {
 // ---- the pairs of two views
 
 /// The pairs of a key and its value that are left to come, in the order of the keys. It reads each
-/// where it lies.
+/// where it lies, and each start once.
 #[derive(Drop)]
 pub struct ZeroMapIter<'l, K: ZvKind, V: ZvKind> {
     keys: KvSlice<'l, K>,
     values: KvSlice<'l, V>,
     next: usize,
+    key_start: usize,
+    value_start: usize,
     end: usize,
     pub ghost order: { next ≤ end },
     pub ghost keys_within: { end ≤ length (list_of keys) },
     pub ghost values_within: { end ≤ length (list_of values) },
+    pub ghost key_starts: { key_start ≡ length (concat (take next (list_of keys))) },
+    pub ghost value_starts: { value_start ≡ length (concat (take next (list_of values))) },
 }
 
 impl<'l, K: ZvKind, V: ZvKind> ZeroMapIter<'l, K, V> {
@@ -131,6 +142,8 @@ impl<'l, K: ZvKind, V: ZvKind> ZeroMapIter<'l, K, V> {
             keys,
             values,
             next: start,
+            key_start: keys.offset(start),
+            value_start: values.offset(start),
             end,
         }
     }
@@ -160,8 +173,12 @@ impl<'l, K: ZvKind, V: ZvKind> Iterator for ZeroMapIter<'l, K, V> {
         if at == self.end {
             return None;
         }
+        let (key, key_start) = self.keys.element_from(at, self.key_start);
+        let (value, value_start) = self.values.element_from(at, self.value_start);
         self.next = at + 1;
-        Some((self.keys.at(at), self.values.at(at)))
+        self.key_start = key_start;
+        self.value_start = value_start;
+        Some((key, value))
     }
 
     #[inline]

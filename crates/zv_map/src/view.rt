@@ -1,10 +1,9 @@
 // Views of containers.
 #![tactic(auto, using(crate::proofs::FixedLists::chunk_places))]
 
-ghost use Rattle.std.specs.Prelude.{◌≡◌, ⊤, ℕ, ◌%◌, ◌==◌, ◌<◌, ◌≤◌, ◌↔◌, List, [], length, Option};
-ghost use Rattle.std.specs.Prelude.{None};
-ghost use Rattle.std.specs.Prelude.{IsTrue};
-ghost use Rattle.std.specs.List.{slice_get};
+ghost use Rattle.std.specs.Prelude.{◌≡◌, ⊤, ℕ, ◌+◌, ◌%◌, ◌==◌, ◌<◌, ◌≤◌, ◌↔◌, List, [], length};
+ghost use Rattle.std.specs.Prelude.{IsTrue, None, Option, take};
+ghost use Rattle.std.specs.List.{concat, slice_get};
 ghost use Rattle.std.specs.Option.{option_map};
 ghost use Rattle.zv_ule.specs.Chunks.{chunks_of, first_fault};
 ghost use Rattle.zv_ule.specs.Fixed.{is_width};
@@ -99,6 +98,29 @@ fn chunk_at(bytes: &[u8], width: usize, index: usize) -> &[u8]
     chunk
 }
 
+/// Where the chunk at a place starts, or where the last one ends.
+#[inline]
+#[tactic(auto, using(crate::proofs::FixedLists::chunk_starts))]
+fn chunk_start(_bytes: &[u8], width: usize, index: usize) -> usize
+    requires width { IsTrue (is_width width) }
+    requires within { index ≤ length (chunks_of width _bytes.now) }
+    ensures { result ≡ length (concat (take index (chunks_of width _bytes.now))) }
+{
+    index * width
+}
+
+/// The chunk at a place, as an element.
+#[inline]
+fn element_at<T: ZvKind>(bytes: &[u8], width: usize, index: usize) -> VarRef<'_, T>
+    requires usable { IsTrue T.usable }
+    requires width { IsTrue (is_width width) }
+    requires good { first_fault T.fault (chunks_of width bytes.now) ≡ None }
+    requires within { index < length (chunks_of width bytes.now) }
+    ensures { element_of result ≡ nth (chunks_of width bytes.now) index }
+{
+    VarRef::of_valid(chunk_at(bytes, width, index))
+}
+
 /// The chunk at a place, as an element, or `None` from the end on.
 #[inline]
 fn chunk_element<T: ZvKind>(bytes: &[u8], width: usize, index: usize) -> Option<VarRef<'_, T>>
@@ -108,7 +130,7 @@ fn chunk_element<T: ZvKind>(bytes: &[u8], width: usize, index: usize) -> Option<
     ensures { option_map element_of result ≡ slice_get (chunks_of width bytes.now) index }
 {
     if index < chunk_count(bytes, width) {
-        Some(VarRef::of_valid(chunk_at(bytes, width, index)))
+        Some(element_at(bytes, width, index))
     } else {
         None
     }
@@ -214,6 +236,45 @@ impl<'b, T: ZvKind> KvSlice<'b, T> {
         match self.get(index) {
             Some(element) => element,
             None => unreachable!(),
+        }
+    }
+
+    /// Where the element at a place starts among the bytes of all elements, and for the place after
+    /// the last one where that one ends.
+    #[inline]
+    pub fn offset(self, index: usize) -> usize
+        requires { index ≤ length (list_of self) }
+        ensures { result ≡ length (concat (take index (list_of self.entry))) }
+    {
+        match self.layout {
+            Layout::Fixed(width) => chunk_start(self.bytes, width, index),
+            Layout::Index16 => VarZeroSlice::<T, Index16>::of_valid(self.bytes).offset(index),
+            Layout::Index32 => VarZeroSlice::<T, Index32>::of_valid(self.bytes).offset(index),
+        }
+    }
+
+    /// The element at a place, and where it ends, where it is known where it starts. Of a list whose
+    /// elements have any lengths it reads one start, where [`at`](Self::at) reads two.
+    #[inline]
+    pub fn element_from(self, index: usize, start: usize) -> (VarRef<'b, T>, usize)
+        requires place { index < length (list_of self) }
+        requires start { start ≡ length (concat (take index (list_of self))) }
+        ensures element { element_of result.0 ≡ nth (list_of self.entry) index }
+        ensures end { result.1 ≡ length (concat (take (index + 1) (list_of self.entry))) }
+    {
+        match self.layout {
+            Layout::Fixed(width) => {
+                let end = chunk_start(self.bytes, width, index + 1);
+                (element_at(self.bytes, width, index), end)
+            }
+            Layout::Index16 => {
+                let list = VarZeroSlice::<T, Index16>::of_valid(self.bytes);
+                list.components().element_from(index, start)
+            }
+            Layout::Index32 => {
+                let list = VarZeroSlice::<T, Index32>::of_valid(self.bytes);
+                list.components().element_from(index, start)
+            }
         }
     }
 

@@ -47,7 +47,8 @@ impl<
     /// As [`insert`](Self::insert), where the pair isn't handed back.
     ///
     /// # Cost
-    /// One comparison. Nothing is moved.
+    /// One comparison. No element is moved where all have one width; where they have any lengths,
+    /// each is moved by a field's width, since the fields stand before them.
     #[tactic(auto, using(crate::proofs::Appended::appended_is))]
     pub fn try_append<'b, Q: ZvOrdArg<K>, R: ZvArg<V>>(
         &mut self,
@@ -86,7 +87,8 @@ impl<
     /// As [`insert`](Self::insert).
     ///
     /// # Cost
-    /// One comparison where the key is above all, and nothing is moved; else one more than `insert`.
+    /// One comparison and the moves of [`try_append`](Self::try_append) where the key is above all,
+    /// else one comparison more than `insert`.
     #[tactic(auto, using(crate::proofs::Appended::none_above))]
     pub fn append_or_insert<Q: ZvOrdArg<K>, R: ZvArg<V>>(
         &mut self,
