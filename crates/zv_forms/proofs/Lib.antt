@@ -1,5 +1,6 @@
 pub mod Alike
 pub mod Arrays
+pub mod Ascending
 pub mod Lists
 pub mod MapsAgain
 pub mod Members

@@ -1,6 +1,6 @@
 -- Maps in one level as JSON. Names are those that keys have as members of an object.
 use Rattle.std.specs.Prelude.{Bool, ◌||◌, ◌==◌, List, [], ◌∷◌, ◌++◌, length, map, Option, Some}
-use Rattle.std.specs.Prelude.{Result, Ok, Err, if◌then◌else◌}
+use Rattle.std.specs.Prelude.{◌≡◌, Result, Ok, Err, if◌then◌else◌, true, zip}
 use Rattle.std.specs.Option.{ok_or, option_and_then, option_map}
 use Rattle.serde_json.specs.Data.{Data, Members, no_members, member, object, array, null, boolean}
 use Rattle.serde_json.specs.Data.{number, string, put}
@@ -15,6 +15,7 @@ use Rattle.zv_map.specs.declared.error.MapError.TheVariants.{Memory as MapMemory
 use Rattle.zv_map1.specs.Appends.{is_above}
 use Rattle.zv_map1.specs.Fits.{Rule, fits, pair_fits}
 use Rattle.zv_map1.specs.Views.{Bytes, Order, Pairs, insert_entry}
+use Rattle.zv_owned.specs.Size.{takes_pushes}
 
 -- ---- what is written
 
@@ -88,3 +89,11 @@ module _ (rule : Rule) (order : Order) (of_name : Bytes → Option Bytes)
   map_in named (string s) = Err Shape
   map_in named (array ds) = pairs_in [] (list_of ds)
   map_in named (object ms) = object_in named ms
+
+-- by each rule whose lists take them all, keys and values are those of the map that members are
+-- read as
+abbrev pub AreColumnsOf : Order → (Bytes → Option Bytes) → (Data → Result Bytes JsonError) →
+    (Data → Result Bytes JsonError) → Members → List Bytes → List Bytes → Type 0
+AreColumnsOf order of_name of_key of_value ms ks vs = (rule : Rule) →
+    takes_pushes rule.takes_key [] ks ≡ true → takes_pushes rule.takes_value [] vs ≡ true →
+    members_in rule order of_name of_key of_value [] ms ≡ Ok (zip ks vs)

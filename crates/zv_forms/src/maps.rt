@@ -1,11 +1,14 @@
 // Maps in one level as JSON.
 ghost use Rattle.std.specs.Prelude.{◌≡◌, ◌&&◌, IfOk, IsTrue, Ok, OnOk, [], map};
-ghost use Rattle.std.specs.Prelude.{false, true, ◌⊎◌};
+ghost use Rattle.std.specs.Prelude.{◌-◌, false, length, slice_get, true, ◌⊎◌};
 ghost use Rattle.serde_json.specs.Data.{object, no_members};
 ghost use Rattle.serde_json.specs.View.{items_view, members_view, view};
-ghost use Rattle.std.specs.Option.{option_map};
-ghost use Rattle.zv_forms.specs.Maps.{inserted, map_in, map_written, members_written};
+ghost use Rattle.std.specs.Option.{option_map, option_map_or};
+ghost use Rattle.std.specs.Ordering.{is_lt};
+ghost use Rattle.zv_forms.specs.Maps.{AreColumnsOf, inserted, map_in, map_written, members_in};
+ghost use Rattle.zv_forms.specs.Maps.{members_written};
 ghost use Rattle.zv_forms.specs.Maps.{object_in, pair_written, pairs_in, put_last, refusal_of};
+ghost use Rattle.zv_forms.specs.Tables.{pushed};
 ghost use Rattle.zv_json.specs.Arrays.{array_written};
 ghost use Rattle.zv_json.specs.Json.{UnlessMemory, or_wide};
 ghost use Rattle.zv_map.specs.Iters.{left_of};
@@ -18,9 +21,9 @@ use crate::form::{JsonForm, ToJson, parse};
 use serde_json::{Map, Value, put};
 use std::alloc::Global;
 use zv_json::{JsonError, JsonKind, items_in};
-use zv_map::{MapError, MutableZeroVecLike, ZeroMapIter, ZvContainer};
+use zv_map::{MapError, MutableZeroVecLike, ZeroMapIter, ZvContainer, container_of};
 use zv_map1::MapOver;
-use zv_ule::{VarBox, VarRef, ZvOrd};
+use zv_ule::{VarBox, VarRef, ZvKind, ZvOrd};
 
 // ---- writing
 
@@ -141,7 +144,90 @@ fn append<
     }
 }
 
-/// Reads a map from the members of an object.
+/// Whether the key is above the last of the keys, or there is none.
+fn is_next<K: JsonKind + ZvOrd>(keys: &[VarBox<K>], key: &VarBox<K>) -> bool
+    ensures { result ≡ option_map_or (λ last. is_lt (K.cmp last key.now))
+        (slice_get keys.now (length keys.now - 1)) true }
+{
+    match keys.get(keys.len().saturating_sub(1)) {
+        Some(last) => last.as_ref().order(key.as_ref()).is_lt(),
+        None => true,
+    }
+}
+
+/// Reads the keys and the values of the members of an object whose keys ascend.
+///
+/// # Errors
+/// Any, as soon as a key or a value is refused or a key is not above the last one.
+fn ascending_columns<K: JsonKind + ZvOrd, V: JsonKind>(
+    alloc: Global,
+    members: &Map<String, Value>,
+) -> Result<(Vec<VarBox<K>>, Vec<VarBox<V>>), JsonError>
+    requires keys { IsTrue K.usable }
+    requires values { IsTrue V.usable }
+    ensures { IfOk result (λ r. AreColumnsOf K.cmp K.of_name K.of_data V.of_data
+        (members_view members.now.entries) r.0.items r.1.items) }
+{
+    let mut keys = Vec::with_capacity(alloc, members.len())?;
+    let mut values = Vec::with_capacity(alloc, members.len())?;
+    for (name, value) in members.iter() {
+        let name = name.as_str();
+        let key = K::key_from_text(alloc, name)?;
+        if !is_next(&keys, &key) {
+            return Err(JsonError::KeyOrder);
+        }
+        keys.push(key)?;
+        values.push(V::element_from_json(alloc, value)?)?;
+    }
+    Ok((keys, values))
+}
+
+/// The container of elements, which owns its bytes. They are written at once where it can do that.
+///
+/// # Errors
+/// `TooLarge` where the container does not take the elements one after another; else `Memory`.
+pub(crate) fn container_of_boxes<'a, T: ZvKind, C: MutableZeroVecLike<'a, T>>(
+    alloc: Global,
+    elements: &[VarBox<T>],
+) -> Result<C, JsonError>
+    requires { IsTrue T.usable }
+    ensures owned { IfOk result (λ c. C.owned c ≡ true) }
+    ensures list { UnlessMemory C.list (pushed C.takes_insert elements.now) result }
+{
+    let mut views = Vec::with_capacity(alloc, elements.len())?;
+    for element in elements {
+        views.push(element.as_ref())?;
+    }
+    container_of(alloc, &views).map_err(refusal_of)
+}
+
+/// Reads a map from the members of an object whose keys ascend, each of its lists being written at
+/// once.
+///
+/// # Errors
+/// Any, where the members have to be inserted one after another; else `Memory`.
+fn map_of_ascending<
+    'a,
+    K: JsonKind + ZvOrd,
+    V: JsonKind,
+    C: MutableZeroVecLike<'a, K> + Drop,
+    D: MutableZeroVecLike<'a, V> + Drop,
+>(alloc: Global, members: &Map<String, Value>) -> Result<MapOver<K, V, C, D>, JsonError>
+    requires keys { IsTrue K.usable }
+    requires values { IsTrue V.usable }
+    ensures owned { IfOk result IsOwned }
+    ensures pairs { IfOk result (λ m. members_in
+        (rule_of C.takes_insert D.takes_insert D.takes_replace) K.cmp K.of_name K.of_data V.of_data
+        [] (members_view members.now.entries) ≡ Ok m.pairs) }
+{
+    let (keys, values) = ascending_columns(alloc, members)?;
+    let keys = container_of_boxes(alloc, &keys)?;
+    let values = container_of_boxes(alloc, &values)?;
+    MapOver::from_vecs(keys, values).map_err(|_| JsonError::KeyOrder)
+}
+
+/// Reads a map from the members of an object. They are inserted one after another where their keys
+/// don't ascend or one of them is refused, to find the first fault in reading order.
 #[tactic(auto, using(crate::proofs::Lists::unnamed))]
 fn map_of_members<
     'a,
@@ -159,6 +245,11 @@ fn map_of_members<
 {
     if !K::KEY && !members.is_empty() {
         return Err(JsonError::Shape);
+    }
+    match map_of_ascending(alloc, members) {
+        Ok(map) => return Ok(map),
+        Err(JsonError::Memory) => return Err(JsonError::Memory),
+        Err(_) => {}
     }
     let mut map = MapOver::with_capacity(alloc, members.len())?;
     for (name, value) in members.iter() {

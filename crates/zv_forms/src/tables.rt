@@ -1,21 +1,20 @@
 // Hash tables as JSON.
 ghost use Rattle.std.specs.Prelude.{◌≡◌, ◌&&◌, IfOk, IsTrue, true, length, map, ◌<◌};
 ghost use Rattle.serde_json.specs.View.{view};
-ghost use Rattle.zv_forms.specs.Tables.{container_in, pushed, table_in, table_written};
+ghost use Rattle.zv_forms.specs.Tables.{container_in, table_in, table_written};
 ghost use Rattle.zv_json.specs.Arrays.{array_written, list_in};
 ghost use Rattle.zv_json.specs.Json.{UnlessMemory, or_wide};
 ghost use Rattle.zv_fixed.specs.Views.{values_in};
 ghost use Rattle.zv_map.specs.Views.{list_of};
 
 use crate::form::{JsonForm, ToJson, parse};
-use crate::maps::refusal_of;
+use crate::maps::container_of_boxes;
 use serde_json::Value;
 use std::alloc::Global;
 use zv_fixed::{ZeroSlice, ZeroVec};
 use zv_hashmap::{HashBytes, HashMapOver};
 use zv_json::{JsonError, JsonKind, JsonValue, elements_from_json, items_in, values_to_json};
 use zv_map::{KvSlice, MutableZeroVecLike, ZvContainer};
-use zv_ule::{VarBox, ZvKind};
 
 /// The array of the elements of a container.
 fn container_to_json<T: JsonKind>(alloc: Global, list: KvSlice<'_, T>) -> Result<Value, JsonError>
@@ -48,23 +47,6 @@ fn vectors_to_json<T: JsonValue, K: JsonKind, V: JsonKind>(
     Ok(Value::Array(vectors))
 }
 
-/// The container of elements, in order.
-fn container_of<'a, T: ZvKind, C: MutableZeroVecLike<'a, T>>(
-    alloc: Global,
-    elements: &[VarBox<T>],
-) -> Result<C, JsonError>
-    requires { IsTrue T.usable }
-    ensures owned { IfOk result (λ c. 0 < length elements.now → C.owned c ≡ true) }
-    ensures list { UnlessMemory C.list (pushed C.takes_insert elements.now) result }
-{
-    let mut container = C::zvl_with_capacity(alloc, elements.len())?;
-    for element in elements {
-        let _ = element.as_bytes().len();
-        container.zvl_push(alloc, element).map_err(refusal_of)?;
-    }
-    Ok(container)
-}
-
 /// Reads a container.
 fn container_from_json<'a, T: JsonKind, C: MutableZeroVecLike<'a, T>>(
     alloc: Global,
@@ -76,7 +58,7 @@ fn container_from_json<'a, T: JsonKind, C: MutableZeroVecLike<'a, T>>(
         result }
 {
     let elements = elements_from_json::<T>(alloc, value)?;
-    container_of(alloc, &elements)
+    container_of_boxes(alloc, &elements)
 }
 
 impl<'a, K: JsonKind + HashBytes, V: JsonKind, C: ZvContainer<K>, D: ZvContainer<V>> ToJson
