@@ -4,14 +4,14 @@
 #
 #     bench/kernels.sh [PROGRAM]
 #
-# PROGRAM is one that times the same work with the crate zerovec, by the names that bench/changes.txt, tables.txt and
-# hashes.txt print; its checksums are the same where it makes the same lists. What it prints of parse_text is the validation
-# of 10,000 texts.
+# PROGRAM is one that times the same work with the crate zerovec, by the names that bench/lists.txt, tables.txt, changes.txt and
+# hashes.txt print; its checksums are the same where it makes the same lists. What it prints of parse_text is the validation of
+# 10,000 texts.
 #
-# The timing programs, bench/timing.txt, changes.txt, tables.txt, hashes.txt, ranges.txt, records.txt, frames.txt and json_forms.txt, are
-# Rattle crates that are no part of the gate. They are proved and built in bench/out, a copy of the sources with the libraries that the
-# tree has built (`.ci/run`, `./zv --prove` and `rt lib` leave them), and stay there: what didn't change is not built again. Each is run as
-# soon as it is built.
+# First it times the program `zv`, where it is built. The timing programs (ranges.txt, records.txt, lists.txt, tables.txt,
+# changes.txt, timing.txt, hashes.txt, frames.txt, json_forms.txt) are Rattle crates that are no part of the gate. They are proved
+# and built in bench/out, a copy of the sources with the libraries that the tree has built (`.ci/run`, `./zv --prove` and `rt lib`
+# leave them), and stay there: what didn't change is not built again. Each is run as soon as it is built.
 set -euo pipefail
 top=$(cd "$(dirname "$0")/.." && pwd)
 copy=$top/bench/out
@@ -63,6 +63,10 @@ beside() {
     if [ -x "$copy/digest" ]; then echo "-- xxHash's own library"; "$copy/digest"; fi
 }
 
+if [ -x "$top/crates/zv/out/zv" ]; then
+    say "times the built program"
+    python3 -u "$top/bench/program.py" 1 || say "bench/program.py needs GNU time, Debian's package time"
+fi
 say "copies the sources into $copy, with the libraries that are kept"
 copy_tree
 if command -v rustc > /dev/null; then
@@ -71,18 +75,19 @@ fi
 if command -v cc > /dev/null && cc -O2 "$top/bench/digest.c" -lxxhash -o "$copy/digest" 2> /dev/null; then :; fi
 
 echo "-- this repository"
-build timing 'zv_var zv_ule zv_fixed zv_xxhash'
-build changes 'zv_map2d zv_owned zv_ule'
-build tables 'zv_map2d zv_map1 zv_ule'
-build hashes 'zv_hashmap zv_hash zv_ule'
 build ranges 'zv_props zv_ule'
 build records 'zv_multi zv_owned zv_ule'
+build lists 'zv_map1 zv_owned zv_ule'
+build tables 'zv_map2d zv_map1 zv_ule'
+build changes 'zv_map2d zv_owned zv_ule'
+build timing 'zv_var zv_ule zv_fixed zv_xxhash'
+build hashes 'zv_hashmap zv_hash zv_ule'
 build frames 'zv_framed zv_map1 zv_owned zv_fixed zv_var zv_ule'
 build json_forms 'zv_forms zv_map1 zv_fixed zv_ule serde_json'
 beside "${1-}"
 say "all once more"
 echo "-- this repository"
-for name in timing changes tables hashes ranges records frames json_forms; do
+for name in ranges records lists tables changes timing hashes frames json_forms; do
     "$copy/crates/zv_$name/out/zv_$name"
 done
 beside "${1-}"
