@@ -83,11 +83,12 @@ build changes 'zv_map2d zv_owned zv_ule'
 build timing 'zv_var zv_ule zv_fixed zv_xxhash'
 build hashes 'zv_hashmap zv_hash zv_ule'
 build frames 'zv_framed zv_map1 zv_owned zv_fixed zv_var zv_ule'
+build freezes 'zv_frozen zv_hashmap zv_map2d zv_map zv_ule'
 build json_forms 'zv_forms zv_map1 zv_fixed zv_ule serde_json'
 beside "${1-}"
 say "all once more"
 echo "-- this repository"
-for name in ranges records lists tables changes timing hashes frames json_forms; do
+for name in ranges records lists tables changes timing hashes frames freezes json_forms; do
     "$copy/crates/zv_$name/out/zv_$name"
 done
 beside "${1-}"

@@ -1,18 +1,13 @@
 -- The key of two texts, and the order of keys.
-use Rattle.zv_frozen.proofs.Common.{◌≡◌, ◌∙◌, ℕ, zero, suc, ◌+◌, ◌<◌, ◌≤◌, ◌^◌, List, [], ◌∷◌, ◌++◌, length, map, take, drop, refl, sym, ap, arith}
-use Rattle.zv_frozen.proofs.Common.{length-append, append_assoc, None}
-use Rattle.zv_frozen.proofs.Common.{common_steps, exact_bytes, slice_cmp, nat_cmp, ordering_then, Equal, Less, Greater, Ordering, IsBytes, le, number}
-use Rattle.zv_frozen.proofs.Common.{text_fault, Bytes, by_bytes}
-use Rattle.zv_frozen.proofs.Common.{IsKey, IsKeyOf, first_len, is_key, key_hashed, key_order, pair_key, read_bytes, text0, text1}
-use Rattle.std.specs.Prelude.{slice_index, flat_map, true, false}
-use Rattle.std.specs.Ordering.{is_ne}
-use Rattle.zv_ule.specs.Chunks.{chunks}
-use Rattle.std.proofs.Common.{◌-◌, length-drop}
-use Rattle.std.proofs.lemmas.Bool.Decides.{nat_tests}
-use Rattle.std.proofs.lemmas.List.{drop-drop, length-take, take-append-drop}
-use Rattle.zv_ule.proofs.Fields.{number_below, le-number_at}
+use Rattle.zv_frozen.proofs.Common.{◌++◌, ◌+◌, ◌-◌, ◌<◌, ◌^◌, ◌∙◌, ◌∷◌, ◌≡◌, ◌≤◌, Bytes, Equal, IsBytes, IsKey, IsKeyOf, List, [], ap, arith, by_bytes, drop}
+use Rattle.zv_frozen.proofs.Common.{drop-drop, exact_bytes, first_len, is_key, key_hashed, key_order, le, length, length-append, length-drop, length-take, map}
+use Rattle.zv_frozen.proofs.Common.{map-id, nat_cmp, nat_tests, ordering_then, pair_key, read_bytes, refl, slice_cmp, slice_index, suc, sym, take}
+use Rattle.zv_frozen.proofs.Common.{take-append-drop, text0, text1, true, zero, ℕ}
+use Rattle.std.proofs.lemmas.List.Concat.{flat_map_single}
+use Rattle.zv_ule.proofs.Fields.{le-number_at, number_below}
 use Rattle.zv_ule.proofs.Lists.{front_bytes}
-use Rattle.zv_var.proofs.Common.{length-le, number-le, take_at, drop_at}
+use Rattle.zv_ule.specs.Chunks.{chunks}
+use Rattle.zv_var.proofs.Common.{drop_at, number-le, take_at}
 
 -- ---- keys are their bytes
 
@@ -22,25 +17,21 @@ read_each zero (x ∷ b) e = absurd (omega arith)
 read_each (suc n) [] e = absurd (omega arith)
 read_each (suc n) (x ∷ b) e = ap (λ r. x ∷ r) (read_each n b (omega arith))
 
-pub read_back : (b : Bytes) → read_bytes b ≡ b
+read_back : (b : Bytes) → read_bytes b ≡ b
 read_back b = read_each _ b (omega arith)
 
 pub same_order : (a b : Bytes) → key_order a b ≡ by_bytes a b
 same_order a b = rw (read_back a, read_back b) refl
 
-singles : (b : List ℕ) → flat_map (λ v. v ∷ []) b ≡ b
-singles [] = refl
-singles (x ∷ b) = ap (λ r. x ∷ r) (singles b)
-
 pub same_hash : (b : Bytes) → key_hashed b ≡ b
-same_hash b = rw (read_back b) (singles b)
+same_hash b = rw (read_back b) (flat_map_single (λ v. v) b ∙ map-id b)
 
 -- keys that compare Equal are the same
 pub exact_keys : (a b : Bytes) → key_order a b ≡ Equal → a ≡ b
 exact_keys a b e = exact_bytes a b (sym (same_order a b) ∙ e)
 
 -- bytes compare with two pieces as their start compares with the first, or else as the rest with the second
-pub in_two : (a x y : List ℕ) → slice_cmp nat_cmp a (x ++ y)
+in_two : (a x y : List ℕ) → slice_cmp nat_cmp a (x ++ y)
     ≡ ordering_then (slice_cmp nat_cmp (take (length x) a) x) (slice_cmp nat_cmp (drop (length x) a) y)
 in_two a [] y = refl
 in_two [] (b ∷ x) y = refl
@@ -51,37 +42,22 @@ pub in_three : (a k0 k1 : Bytes) → by_bytes a (pair_key k0 k1)
     (ordering_then (slice_cmp nat_cmp (take (length k0) (drop 4 a)) k0) (slice_cmp nat_cmp (drop (length k0) (drop 4 a)) k1))
 in_three a k0 k1 = in_two a (le 4 (length k0)) (k0 ++ k1) ∙ ap (ordering_then (slice_cmp nat_cmp (take 4 a) (le 4 (length k0)))) (in_two (drop 4 a) k0 k1)
 
--- what is not Equal is told at once
-pub not_equal : (r s : Ordering) → is_ne r ≡ true → ordering_then r s ≡ r
-not_equal Less s h = refl
-not_equal Equal s h = absurd cc
-not_equal Greater s h = refl
-
-pub equal_then : (r s : Ordering) → is_ne r ≡ false → ordering_then r s ≡ s
-equal_then Less s h = absurd cc
-equal_then Equal s h = refl
-equal_then Greater s h = absurd cc
-
 -- ---- the texts of a key
 
 module _ (k0 k1 : Bytes) (short : length k0 < 2 ^ 32) where
-  head : take 4 (pair_key k0 k1) ≡ le 4 (length k0)
-  head = take_at (le 4 (length k0)) (k0 ++ k1) 4 (length-le 4 (length k0))
-
-  texts : drop 4 (pair_key k0 k1) ≡ k0 ++ k1
-  texts = drop_at (le 4 (length k0)) (k0 ++ k1) 4 (length-le 4 (length k0))
-
-  pub first_long : first_len (pair_key k0 k1) ≡ length k0
-  first_long = ap number head ∙ number-le 4 (length k0) short
+  first_long : first_len (pair_key k0 k1) ≡ length k0
+  first_long = number-le 4 (length k0) short
 
   pub first_back : text0 (pair_key k0 k1) ≡ k0
-  first_back = rw (first_long, texts) (take_at k0 k1 (length k0) refl)
+  first_back = rw first_long (take_at k0 k1 (length k0) refl)
 
   pub second_back : text1 (pair_key k0 k1) ≡ k1
-  second_back =
-      let both : pair_key k0 k1 ≡ (le 4 (length k0) ++ k0) ++ k1 = sym (append_assoc (le 4 (length k0)) k0 k1) in
-      let long : length (le 4 (length k0) ++ k0) ≡ 4 + length k0 = omega (arith, length-append (le 4 (length k0)) k0, length-le 4 (length k0)) in
-      rw (first_long, both) (drop_at (le 4 (length k0) ++ k0) k1 (4 + length k0) long)
+  second_back = sym (drop-drop (first_len (pair_key k0 k1)) 4 (pair_key k0 k1)) ∙ rw first_long (drop_at k0 k1 (length k0) refl)
+
+-- keys that are the same are those of the same texts
+pub same_texts : (j0 j1 k0 k1 : Bytes) → length j0 < 2 ^ 32 → length k0 < 2 ^ 32 → pair_key j0 j1 ≡ pair_key k0 k1 → (j0 ≡ k0) × (j1 ≡ k1)
+same_texts j0 j1 k0 k1 s t same =
+    (sym (first_back j0 j1 s) ∙ ap text0 same ∙ first_back k0 k1 t, sym (second_back j0 j1 s) ∙ ap text1 same ∙ second_back k0 k1 t)
 
 -- a key is that of no other texts
 pub key_back : {key k0 k1 : Bytes} → IsKeyOf key k0 k1 → (text0 key ≡ k0) × (text1 key ≡ k1)
@@ -90,38 +66,26 @@ key_back {key} {k0} {k1} is = rw is.is (first_back k0 k1 is.short, second_back k
 pub key_shown : {key k0 k1 : Bytes} → IsKeyOf key k0 k1 → IsKey key
 key_shown is = let back = key_back is in rw (back.0, back.1) is
 
--- bytes that spell a key
-pub spelled : (key : Bytes) → IsBytes key → 4 ≤ length key → first_len key ≤ length (drop 4 key) → text_fault (text0 key) ≡ None →
-    text_fault (text1 key) ≡ None → IsKey key
-spelled key bytes long within t0 t1 =
+-- the test of a key shows its texts, and those of any two texts pass it
+pub tested : (key : Bytes) → IsBytes key → is_key key ≡ true → IsKey key
+tested key bytes passes =
+    let long : 4 ≤ length key = grind (arith, nat_tests) in
+    let within : first_len key ≤ length (drop 4 key) = grind (arith, nat_tests, length-drop) in
     let front : length (take 4 key) ≡ 4 = omega (arith, length-take 4 key) in
     let four = front_bytes 4 key bytes long in
     let first : length (text0 key) ≡ first_len key = omega (arith, length-take (first_len key) (drop 4 key), within) in
     let behind : text0 key ++ text1 key ≡ drop 4 key =
     ap (λ r. text0 key ++ r) (sym (drop-drop (first_len key) 4 key)) ∙ take-append-drop (first_len key) (drop 4 key) in
-    let whole : le 4 (first_len key) ++ (text0 key ++ text1 key) ≡ key =
-    ap (λ h. h ++ (text0 key ++ text1 key)) (le-number_at 4 (take 4 key) front four) ∙ ap (λ r. take 4 key ++ r) behind ∙ take-append-drop 4 key in
     record {
-      text0 = t0;
-      text1 = t1;
+      text0 = grind arith;
+      text1 = grind arith;
       short = rw first (number_below 4 (take 4 key) front four);
-      is = sym (ap (λ n. le 4 n ++ (text0 key ++ text1 key)) first ∙ whole);
+      is = cc (first, le-number_at 4 (take 4 key) front four, behind, take-append-drop 4 key);
     }
 
--- the test of a key shows its texts, and those of any two texts pass it
-pub tested : (key : Bytes) → IsBytes key → is_key key ≡ true → IsKey key
-tested key bytes passes =
-    let front : 4 ≤ length key = grind (arith, nat_tests) in
-    let within : first_len key ≤ length (drop 4 key) = grind (arith, nat_tests, length-drop) in
-    let t0 : text_fault (text0 key) ≡ None = grind arith in
-    let t1 : text_fault (text1 key) ≡ None = grind arith in
-    spelled key bytes front within t0 t1
-
 pub passes : {key k0 k1 : Bytes} → IsKeyOf key k0 k1 → is_key key ≡ true
-passes {key} {k0} {k1} is =
-    let t0 : text_fault (text0 key) ≡ None = rw (key_back is).0 is.text0 in
-    let t1 : text_fault (text1 key) ≡ None = rw (key_back is).1 is.text1 in
-    let front : 4 ≤ length key = rw is.is (omega (arith, length-append (le 4 (length k0)) (k0 ++ k1))) in
-    let within : first_len key ≤ length key - 4 =
-    rw is.is (omega (arith, first_long k0 k1 is.short, length-append (le 4 (length k0)) (k0 ++ k1), length-append k0 k1, length-le 4 (length k0))) in
+passes {key} is =
+    let shown : IsKey key = key_shown is in
+    let whole : length key ≡ 4 + (length (text0 key) + length (text1 key)) = omega (arith, ap length shown.is, length-append (text0 key) (text1 key)) in
+    let first : first_len key ≡ length (text0 key) = ap first_len shown.is ∙ first_long (text0 key) (text1 key) shown.short in
     grind (arith, nat_tests)

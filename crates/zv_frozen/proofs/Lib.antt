@@ -1,13 +1,9 @@
 mod Common
 mod Keys
-mod Sizes
 mod Answered
-mod Apart
-mod Found
 mod Limits
 mod Parsed
 mod Placements
 mod Refusals
 mod OneTable
 mod Thawed
-mod Told

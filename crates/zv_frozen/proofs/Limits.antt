@@ -1,40 +1,18 @@
 -- No pair of a frozen image within the limit is refused as it thaws.
-use Rattle.zv_frozen.proofs.Common.{◌≡◌, ◌∙◌, ℕ, zero, suc, ◌+◌, ◌-◌, ◌<◌, ◌≤◌, ◌^◌, List, [], ◌∷◌, length, drop, take, Option, Some, None, Bool, true, ap, sym}
-use Rattle.zv_frozen.proofs.Common.{false, refl, arith, nat_tests, nat_list_cmp_total, AllByRecursion, number, Bytes, nth, Triple, by_bytes, IsWell}
-use Rattle.zv_frozen.proofs.Common.{Rows, find, seconds}
-use Rattle.zv_frozen.proofs.Common.{Table, first_len, text0, text1, split, triples_of}
-use Rattle.std.proofs.Common.{◌*◌, ◌&&◌, inl, inr, length-drop, nat_lt, not, slice_range}
-use Rattle.std.proofs.lemmas.Bool.{cases_eq, cond_both}
-use Rattle.std.proofs.lemmas.List.{length-take}
-use Rattle.std.proofs.lemmas.List.Sums.{sum_by-cons}
-use Rattle.std.specs.List.{sum_by, zip}
-use Rattle.std.specs.Option.{option_map, option_map_or}
-use Rattle.std.specs.Prelude.{◌==◌, IfSome, if◌then◌else◌, is_none, option_and_then}
+use Rattle.zv_frozen.proofs.Common.{if◌then◌else◌, ◌&&◌, ◌*◌, ◌+◌, ◌-◌, ◌<◌, ◌==◌, ◌^◌, ◌∙◌, ◌∷◌, ◌≡◌, ◌≤◌, Bool, Bytes, FormError, IfSome, IsReadTable, IsWell}
+use Rattle.zv_frozen.proofs.Common.{List, Map2dError, NeverRefused, None, Option, Rows, Some, Table, Triple, [], added_size, ap, arith, by_bytes, bytes_fault}
+use Rattle.zv_frozen.proofs.Common.{cases_eq, cond_both, drop, false, find, first_len, first_refusal, fits_alike, frame_error, inl, inr, is_none, length}
+use Rattle.zv_frozen.proofs.Common.{length-drop, length-take, list16, nat_list_cmp_total, nat_tests, none_well, not, nth, option_and_then, option_map}
+use Rattle.zv_frozen.proofs.Common.{option_map_or, parts_in, put, put_grows, put_well, refl, seconds, size_total, slice_range, small_fits, split, suc, sum_by}
+use Rattle.zv_frozen.proofs.Common.{sum_by-cons, sym, table_fault, text0, text1, texts_rule, triples_of, true, wide_size, zero, zip, ℕ}
+use Rattle.zv_owned.specs.Size.{size}
+use Rattle.zv_map2d.specs.declared.error.Map2dError.TheVariants.{TooLarge, TooMany}
 use Rattle.zv_var.proofs.Encoding.{after_some, fault_after_none}
 use Rattle.zv_var.proofs.Fields.{fault_some}
 use Rattle.zv_var.proofs.Lists.{length-elements_after}
 use Rattle.zv_var.proofs.Turns.{from_none, length_from_none}
 use Rattle.zv_var.specs.Format.{body, count, elements, elements_after, elements_fault, ends, fault_after, list_fault, pieces}
-use Rattle.zv_var.specs.Frame.{first_part, parted}
-use Rattle.zv_owned.proofs.Sizes.{size_total}
-use Rattle.zv_owned.specs.Size.{size}
-use Rattle.zv_map2d.proofs.Well.{none_well, put_well}
-use Rattle.zv_map2d.specs.Appending.{first_refusal}
-use Rattle.zv_map2d.specs.Fits.{texts_rule}
-use Rattle.zv_map2d.specs.Image.{bytes_fault}
-use Rattle.zv_map2d.specs.Rows.{put}
-use Rattle.zv_map2d.specs.declared.error.Map2dError.{Map2dError}
-use Rattle.zv_map2d.specs.declared.error.Map2dError.TheVariants.{TooLarge, TooMany}
-use Rattle.zv_map2d_laws.proofs.Kept.{fits_alike}
-use Rattle.zv_map2d_laws.proofs.Sizes.{put_grows, small_fits}
-use Rattle.zv_map2d_laws.specs.Sizes.{added_size, wide_size}
-use Rattle.zv_framed.specs.Faults.{table_fault}
-use Rattle.zv_framed.specs.Frames.{parts_in}
-use Rattle.zv_framed.specs.Read.{IsReadTable}
-use Rattle.zv_framed.specs.declared.error.FormError.{FormError}
-use Rattle.zv_frozen.specs.Faults.{frame_error}
-use Rattle.zv_frozen.specs.Laws.{NeverRefused}
-use Rattle.zv_frozen.specs.Tables.{list16}
+use Rattle.zv_var.specs.Frame.{first_part}
 
 -- ---- triples that are put
 
@@ -83,40 +61,31 @@ split_small (k ∷ ks) (v ∷ vs) = omega (
 
 -- ---- the parts of a frame
 
-cut_within : (n m : ℕ) (after : List ℕ) → length after ≤ n → IfSome (parted m after) (λ cut. (length cut.0 ≤ n) × (length cut.1 ≤ n))
-cut_within n m after short = cond_both (nat_lt (length after) m) None (Some (take m after, drop m after))
-    (λ o. IfSome o (λ cut. (length cut.0 ≤ n) × (length cut.1 ≤ n))) (λ e. tt)
-    (λ e. (omega (arith, length-take m after, short), omega (arith, length-drop m after, short)))
-
 first_within : (n : ℕ) (b : List ℕ) → length b ≤ n → IfSome (first_part b) (λ cut. (length cut.0 ≤ n) × (length cut.1 ≤ n))
-first_within n b short = cond_both (nat_lt (length b) 8) None (parted (number (take 8 b)) (drop 8 b))
-    (λ o. IfSome o (λ cut. (length cut.0 ≤ n) × (length cut.1 ≤ n))) (λ e. tt)
-    (λ e. cut_within n (number (take 8 b)) (drop 8 b) (omega (arith, length-drop 8 b, short)))
+first_within n b short = grind (arith, nat_tests, length-take, length-drop)
 
 -- each part is no longer than the frame
 abbrev AreWithin : ℕ → List (List ℕ) → Type 0
-AreWithin n ps = AllByRecursion (λ p. length p ≤ n) ps
+AreWithin n ps = (i : ℕ) → length (nth ps i) ≤ n
 
-joined_within : (n : ℕ) (p : List ℕ) (rest : Option (List (List ℕ))) → length p ≤ n → IfSome rest (AreWithin n) →
+one_within : (n : ℕ) (p : List ℕ) (rest : Option (List (List ℕ))) → length p ≤ n → IfSome rest (AreWithin n) →
     IfSome (option_map (λ ps. p ∷ ps) rest) (AreWithin n)
-joined_within n p None short all = tt
-joined_within n p (Some ps) short all = (short, all)
+one_within n p None short all = tt
+one_within n p (Some ps) short all = at
+  where
+    at : AreWithin n (p ∷ ps)
+    at zero = short
+    at (suc i) = all i
 
 parts_within : (n k : ℕ) (b : List ℕ) → length b ≤ n → IfSome (parts_in k b) (AreWithin n)
-parts_within n zero b short = cond_both (length b == 0) (Some []) None (λ o. IfSome o (AreWithin n)) (λ e. tt) (λ e. tt)
+parts_within n zero b short = cond_both (length b == 0) (Some []) None (λ o. IfSome o (AreWithin n)) (λ e i. omega arith) (λ e. tt)
 parts_within n (suc k) b short = by (first_part b) (parts_within n k) (first_within n b short)
   where
     by : (o : Option (List ℕ × List ℕ)) → ((c : List ℕ) → length c ≤ n → IfSome (parts_in k c) (AreWithin n)) →
         IfSome o (λ cut. (length cut.0 ≤ n) × (length cut.1 ≤ n)) →
         IfSome (option_and_then (λ cut. option_map (λ rest. cut.0 ∷ rest) (parts_in k cut.1)) o) (AreWithin n)
     by None rest within = tt
-    by (Some cut) rest within = joined_within n cut.0 (parts_in k cut.1) within.0 (rest cut.1 within.1)
-
--- and so is no bytes, where there is none
-any_within : (n : ℕ) (ps : List (List ℕ)) → AreWithin n ps → (i : ℕ) → length (nth ps i) ≤ n
-any_within n [] all i = omega arith
-any_within n (p ∷ ps) all zero = all.0
-any_within n (p ∷ ps) all (suc i) = any_within n ps all.1 i
+    by (Some cut) rest within = one_within n cut.0 (parts_in k cut.1) within.0 (rest cut.1 within.1)
 
 -- ---- the lists that are read of them
 
@@ -156,7 +125,7 @@ table_within n t None within none read = absurd cc
 table_within n t (Some ps) within none read =
     let keys : size 4 t.keys ≤ 2 * length (nth ps 1) = rw read.keys (list_within (nth ps 1) (grind arith)) in
     let values : size 4 t.values ≤ 2 * length (nth ps 2) = rw read.values (list_within (nth ps 2) (grind arith)) in
-    omega (arith, split_small t.keys t.values, keys, values, any_within n ps within 1, any_within n ps within 2)
+    omega (arith, split_small t.keys t.values, keys, values, within 1, within 2)
 
 pub never_refused : NeverRefused
 never_refused bytes t short none read =

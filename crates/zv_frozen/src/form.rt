@@ -7,7 +7,7 @@ ghost use Rattle.zv_command.specs.Sending.{Sends};
 ghost use Rattle.zv_image.specs.Room.{HasRoomOf};
 ghost use Rattle.zv_map2d.specs.Image.{fault};
 ghost use Rattle.zv_map2d_laws.specs.Laws.{rows_in};
-ghost use Rattle.zv_frozen.specs.RequestLines.{fault_line, frozen_line, no_place_line};
+ghost use Rattle.zv_frozen.specs.RequestLines.{fault_line, frozen_line};
 ghost use Rattle.zv_frozen.specs.Faults.{frozen_fault};
 ghost use Rattle.zv_frozen.specs.Requests.{freeze_due, thaw_due};
 ghost use Rattle.zv_frozen.specs.Tables.{IsReadAs, thawed};
@@ -46,17 +46,6 @@ fn tell_frozen<K: Sink>(bytes: &[u8], sink: &mut K) -> Result<(), Failed>
     write_frozen(&mut Output::new(sink), bytes)
 }
 
-// Names the bucket that is stuck.
-fn refuse_bucket<K: Sink>(alloc: Global, bucket: usize, sink: &mut K) -> Status
-    ensures { Tells K.taken K.faults sink.old sink.new result
-        (text_due (no_place_line bucket) Status.BadImage) }
-{
-    let Ok(text) = format!(in alloc; "error noplace {bucket}\n") else {
-        return Status::Memory;
-    };
-    send(sink, text.as_bytes(), Status::BadImage)
-}
-
 // Answers for the map that an image stands for.
 fn answer_map<K: Sink>(alloc: Global, image: &[u8], map: &ImageMap<'_>, sink: &mut K) -> Status
     requires sound { fault image.now ≡ None }
@@ -67,7 +56,12 @@ fn answer_map<K: Sink>(alloc: Global, image: &[u8], map: &ImageMap<'_>, sink: &m
     match freeze(alloc, map) {
         Ok(bytes) => status_of(tell_frozen(&bytes, sink)),
         Err(FreezeError::TooLarge) => send(sink, b"error toolarge\n", Status::BadImage),
-        Err(FreezeError::NoPlace { bucket }) => refuse_bucket(alloc, bucket, sink),
+        Err(FreezeError::NoPlace { bucket }) => {
+            let Ok(text) = format!(in alloc; "error noplace {bucket}\n") else {
+                return Status::Memory;
+            };
+            send(sink, text.as_bytes(), Status::BadImage)
+        }
         Err(FreezeError::Memory) => Status::Memory,
     }
 }
@@ -183,8 +177,8 @@ fn thaw_ready(alloc: Global, frozen: &Frozen<'_>) -> Result<ImageMap<'static>, M
     Ok(map)
 }
 
-// Answers for a frozen image. A map that is refused is told as a want of memory: by the laws, within
-// the limit on inputs nothing else refuses it.
+// Answers for a frozen image. A map that is refused is told as a want of memory: by the laws,
+// within the limit on inputs nothing else refuses it.
 fn answer_thawed<K: Sink>(alloc: Global, bytes: &[u8], frozen: &Frozen<'_>, sink: &mut K) -> Status
     requires sound { frozen_fault bytes.now ≡ None }
     requires table { IsReadAs bytes.now frozen.now }

@@ -116,6 +116,7 @@ impl PairKey<'_> {
     ghost use Rattle.zv_frozen.specs.Argument.{key_of};
 
     /// How the bytes of a stored key compare with the key's.
+    #[tactic(auto, using(crate::proofs::Keys::in_three))]
     #[inline]
     fn compare(&self, stored: &[u8]) -> Ordering
         ensures { result ≡ by_bytes stored.now (key_of self.now) }

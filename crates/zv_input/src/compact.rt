@@ -28,14 +28,22 @@ const _: () = prove!(size_of::<Stored>() == 16);
 
 // Whether bytes are UTF-8. (Most texts are ASCII, which is tested faster.)
 #[tactic(auto, using(crate::proofs::Texts::text_tests))]
-#[inline]
+fn is_utf8(bytes: &[u8]) -> bool
+    ensures { result ≡ is_utf8 bytes.now }
+{
+    bytes.is_ascii() || std::str::from_utf8(bytes).is_ok()
+}
+
+// The same. (Of no bytes, as in the shortest lines, it is known without a call.)
+#[tactic(auto, using(crate::proofs::Texts::no_text))]
+#[inline(always)]
 fn is_text(bytes: &[u8]) -> bool
     ensures { result ≡ is_utf8 bytes.now }
 {
-    if bytes.is_ascii() {
-        return true;
+    match bytes {
+        [] => true,
+        _ => is_utf8(bytes),
     }
-    std::str::from_utf8(bytes).is_ok()
 }
 
 /// Whether bytes are of a kind.

@@ -253,8 +253,8 @@ impl<'b, T: ZvKind> KvSlice<'b, T> {
         }
     }
 
-    /// The element at a place, and where it ends, where it is known where it starts. Of a list whose
-    /// elements have any lengths it reads one start, where [`at`](Self::at) reads two.
+    /// The element at a place, and where it ends, where it is known where it starts. Of a list
+    /// whose elements have any lengths it reads one start, where [`at`](Self::at) reads two.
     #[inline]
     pub fn element_from(self, index: usize, start: usize) -> (VarRef<'b, T>, usize)
         requires place { index < length (list_of self) }

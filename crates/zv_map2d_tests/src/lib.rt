@@ -9,3 +9,5 @@ mod look_ups;
 mod maps;
 #[cfg(test)]
 mod reads;
+#[cfg(test)]
+mod size_rule;

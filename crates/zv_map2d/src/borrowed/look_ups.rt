@@ -172,6 +172,7 @@ impl<'a, K0: ZvOrd, K1: ZvOrd, V: ZvKind> ZeroMap2dBorrowed<'a, K0, K1, V> {
     }
 
     /// The row at the place where a search for its first key ended, if there is one.
+    #[inline(always)]
     fn row_there<'l, Q0: ZvOrdArg<K0>>(
         &self,
         place: Result<usize, usize>,
@@ -260,6 +261,7 @@ impl<'a, K0: ZvOrd, K1: ZvOrd, V: ZvKind> ZeroMap2dBorrowed<'a, K0, K1, V> {
     }
 
     /// The row of a first key, if there is one. It is one search.
+    #[inline(always)]
     pub fn get0<'l, Q0: ZvOrdArg<K0>>(
         &self,
         key0: &Q0,

@@ -1,5 +1,4 @@
-use Rattle.zv_frozen.proofs.Common.{◌≡◌, ◌++◌, map, AreSized, entry, row_triples}
-use Rattle.zv_map.specs.Iters.{left_of}
+use Rattle.zv_frozen.proofs.Common.{◌++◌, ◌≡◌, AreSized, entry, left_of, map, row_triples}
 use Rattle.zv_frozen.proofs.build.add_row.Given as goal
 
 -- with the pairs that are left they are what they are with all

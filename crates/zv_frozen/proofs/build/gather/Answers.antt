@@ -1,5 +1,4 @@
-use Rattle.zv_frozen.proofs.Common.{◌≡◌, ◌∙◌, map}
-use Rattle.zv_map2d.specs.RowIters.{rows_left}
+use Rattle.zv_frozen.proofs.Common.{◌∙◌, map, rows_left}
 use Rattle.zv_frozen.proofs.Refusals.{one_row, row_refused}
 use Rattle.zv_frozen.proofs.build.gather.Goals as goal
 

@@ -1,6 +1,4 @@
-use Rattle.zv_frozen.proofs.Common.{◌≡◌, ◌++◌, map, AreSized, entries, by_bytes, AllByRecursion, Rows}
-use Rattle.zv_map2d.specs.RowIters.{rows_left}
-use Rattle.zv_map2d.specs.Rows.{IsRow}
+use Rattle.zv_frozen.proofs.Common.{◌++◌, ◌≡◌, AllByRecursion, AreSized, IsRow, Rows, by_bytes, entries, map, rows_left}
 use Rattle.zv_frozen.proofs.build.gather.Given as goal
 
 -- with the rows that are left they are those of the map

@@ -1,5 +1,5 @@
-use Rattle.zv_frozen.proofs.Common.{◌≡◌, ◌∙◌, map, refl, entries}
-use Rattle.zv_frozen.proofs.Refusals.{refused, same_pairs}
+use Rattle.zv_frozen.proofs.Common.{◌∙◌, entries, map, map-id, refl}
+use Rattle.zv_frozen.proofs.Refusals.{refused}
 use Rattle.zv_frozen.proofs.build.table_of.Goals as goal
 
 pub try_from_pairs-requires : goal.try_from_pairs-requires
@@ -8,9 +8,9 @@ try_from_pairs-requires c =
     λ k. ((refl, tt), (refl, (refl, (rw c.deref.ensures.value sized.0, rw c.deref.ensures.value sized.1))))
 
 pub returns-in-Ok-clause-table : goal.returns-in-Ok-clause-table
-returns-in-Ok-clause-table c = rw (same_pairs c.deref.result.now ∙ c.deref.ensures.value ∙ c.in_ok-entries.ensures.entries) at c.in-Ok.ensures
+returns-in-Ok-clause-table c = rw (map-id c.deref.result.now ∙ c.deref.ensures.value ∙ c.in_ok-entries.ensures.entries) at c.in-Ok.ensures
 
 pub returns-clause-table : goal.returns-clause-table
 returns-clause-table c =
-    let given = same_pairs c.deref.result.now ∙ c.deref.ensures.value ∙ c.in_ok-entries.ensures.entries in
+    let given = map-id c.deref.result.now ∙ c.deref.ensures.value ∙ c.in_ok-entries.ensures.entries in
     rw c.from.ensures (refused c.args.map.now.rows c.in_order.ensures.ascending c.in-Err.error (rw given at c.in-Err.ensures))

@@ -1,5 +1,4 @@
-use Rattle.std.proofs.Common.{refl, rules}
-use Rattle.zv_command.proofs.Telling.{tells_sent}
+use Rattle.zv_frozen.proofs.Common.{refl, rules, tells_sent}
 use Rattle.zv_frozen.proofs.form.refuse_key.Goals as goal
 
 pub returns : goal.returns

@@ -1,5 +1,4 @@
-use Rattle.std.proofs.Common.{rules, sym}
-use Rattle.std.proofs.lemmas.List.{append-nil}
+use Rattle.zv_frozen.proofs.Common.{append-nil, rules, sym}
 use Rattle.zv_command.proofs.Sending.{sends_as, sends_then}
 use Rattle.zv_frozen.proofs.form.write_frozen.Goals as goal
 

@@ -1,6 +1,6 @@
-use Rattle.zv_frozen.proofs.Common.{◌≡◌, ◌∙◌, sym, true, nth, IsKey, is_key}
-use Rattle.zv_map.specs.Views.{list_of}
-use Rattle.zv_frozen.proofs.Parsed.{below_more, one_key}
+use Rattle.zv_frozen.proofs.Common.{◌∙◌, ◌≡◌, IsKey, is_key, list_of, nth, sym, true}
+use borrow.Author.Count.{below_more}
+use Rattle.zv_frozen.proofs.Parsed.{one_key}
 use Rattle.zv_frozen.proofs.frozen.first_no_key.Goals as goal
 
 pub loop-place-preserved : goal.loop-place-preserved

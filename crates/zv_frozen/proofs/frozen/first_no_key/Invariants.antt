@@ -1,6 +1,4 @@
-use Rattle.zv_frozen.proofs.Common.{◌≡◌, ℕ, ◌<◌, drop, IsKey, nth}
-use Rattle.zv_map.specs.Views.{list_of}
-use Rattle.zv_frozen.specs.Faults.{first_no_key}
+use Rattle.zv_frozen.proofs.Common.{◌<◌, ◌≡◌, IsKey, drop, first_no_key, list_of, nth, ℕ}
 use Rattle.zv_frozen.proofs.frozen.first_no_key.Given as goal
 
 -- the keys before this place are those of two texts

@@ -1,5 +1,5 @@
 use Rattle.zv_frozen.proofs.Common.{◌∙◌, ap, found, key_hashed, key_order}
-use Rattle.zv_frozen.proofs.Found.{value_short}
+use Rattle.zv_frozen.proofs.Thawed.{value_short}
 use Rattle.zv_frozen.proofs.frozen.Frozen.get.Goals as goal
 
 pub returns : goal.returns

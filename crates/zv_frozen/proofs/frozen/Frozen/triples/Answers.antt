@@ -1,6 +1,5 @@
-use Rattle.std.proofs.lemmas.List.{append-nil}
-use Rattle.zv_frozen.proofs.Common.{◌≡◌, ◌∙◌, refl, sym}
-use Rattle.zv_frozen.proofs.Thawed.{all_keys, none_sized, zipped_keys}
+use Rattle.zv_frozen.proofs.Common.{◌∙◌, append-nil, refl, sym}
+use Rattle.zv_frozen.proofs.Thawed.{all_keys, none_sized}
 use Rattle.zv_frozen.proofs.frozen.Frozen.triples.Goals as goal
 
 pub loop-key-init : goal.loop-key-init
@@ -11,7 +10,7 @@ loop-key-init c =
       is_finite = tt;
       rest = rw (c.in_ok-triples.ensures.items, c.into_iter-key-iterator.ensures.into_iter_gives, c.iter-key-items.ensures, ← c.self.view_is) refl;
       sized = rw c.in_ok-triples.ensures.items none_sized;
-      keys = rw (c.into_iter-key-iterator.ensures.into_iter_gives, c.iter-key-items.ensures) (zipped_keys t.keys t.values (all_keys t c.self.invariant.keys));
+      keys = rw (c.into_iter-key-iterator.ensures.into_iter_gives, c.iter-key-items.ensures) (all_keys t c.self.invariant.keys);
     }
 
 pub returns-clause-triples : goal.returns-clause-triples

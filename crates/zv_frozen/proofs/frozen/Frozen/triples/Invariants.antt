@@ -1,6 +1,4 @@
-use Rattle.zv_frozen.proofs.Common.{◌≡◌, ◌++◌, AreSizedTriples, IsKey, AllByRecursion, keys_of, split, triples_of}
-use Rattle.zv_map.specs.Iters.{left_of}
-use Rattle.zv_map2d.specs.Appending.{written}
+use Rattle.zv_frozen.proofs.Common.{◌++◌, ◌≡◌, AllByRecursion, AreSizedTriples, IsKey, keys_of, left_of, split, triples_of, written}
 use Rattle.zv_ule.specs.Views.{element_of}
 use Rattle.zv_frozen.proofs.frozen.Frozen.triples.Given as goal
 

@@ -1,5 +1,4 @@
-use Rattle.zv_frozen.proofs.Common.{◌≡◌, ◌∙◌, ◌++◌, sym, ap, append_assoc, length, le, pair_key}
-use Rattle.std.proofs.Common.{subst}
+use Rattle.zv_frozen.proofs.Common.{◌++◌, ◌∙◌, ap, append_assoc, le, length, pair_key, subst, sym}
 use Rattle.zv_xxhash.specs.Held.{Holds}
 use Rattle.zv_frozen.proofs.Keys.{same_hash}
 use Rattle.zv_frozen.proofs.key.PairKeyHashArgZeroSliceULEU8.hash_arg.Goals as goal

@@ -1,4 +1,4 @@
-use Rattle.zv_frozen.proofs.Common.{◌∙◌, sym, pair_key}
+use Rattle.zv_frozen.proofs.Common.{◌∙◌, pair_key, sym}
 use Rattle.zv_frozen.proofs.Keys.{same_order}
 use Rattle.zv_frozen.proofs.key.PairKeyZvOrdArgZeroSliceULEU8.arg_compare.Goals as goal
 

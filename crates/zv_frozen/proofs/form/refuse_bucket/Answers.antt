@@ -1,6 +1,0 @@
-use Rattle.std.proofs.Common.{refl, rules}
-use Rattle.zv_command.proofs.Telling.{tells_sent}
-use Rattle.zv_frozen.proofs.form.refuse_bucket.Goals as goal
-
-pub returns : goal.returns
-returns g c = tells_sent c.as_bytes.result.now refl (search rules) c.send.ensures.sent c.send.ensures.later

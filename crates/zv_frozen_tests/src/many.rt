@@ -1,0 +1,106 @@
+// As many pairs as a frozen image holds.
+ghost use Rattle.std.specs.Prelude.{◌≡◌, ◌<◌, ◌^◌, length};
+
+use std::alloc::{AllocError, Global};
+use std::marker::Brand;
+use std::process::Abort;
+use std::sync::ledger::{Blank, Ledger};
+use std::test::Fail;
+use zv_frozen::{FreezeError, Frozen, freeze};
+use zv_map::FlexULE;
+use zv_map2d::ImageMap;
+use zv_ule::{SliceULE, Steps, VarRef};
+
+// How many keys of two texts of one byte fit in a list with fields of two bytes: each takes eight
+// of 65,535 bytes.
+const MOST: u16 = 8191;
+
+// The text of one byte: the last seven binary digits of a number.
+fn text(alloc: Global, number: u16) -> Result<String, AllocError> {
+    let mut text = String::new(alloc);
+    text.push((number % 128) as u8 as char)?;
+    Ok(text)
+}
+
+// A text that is at hand is shorter than 2^64 bytes. It does nothing.
+fn text_is_short(text: &str)
+    ensures { length text.now < 2 ^ 64 }
+{}
+
+// Puts a number for its pair: the texts of its digits by 128.
+fn put(alloc: Global, map: &mut ImageMap<'static>, number: u16) -> Result<(), Fail> {
+    let (key0, key1) = (text(alloc, number / 128)?, text(alloc, number)?);
+    let (key0, key1) = (key0.as_str(), key1.as_str());
+    text_is_short(key0);
+    text_is_short(key1);
+    let bytes = number.to_le_bytes();
+    let value = FlexULE::of_plain(VarRef::of_bytes(&bytes));
+    let _ = map.insert(alloc, &key0, &key1, &value)?;
+    Ok(())
+}
+
+// The map of the numbers below a count, each under its pair.
+fn map_of(alloc: Global, count: u16) -> Result<ImageMap<'static>, Fail> {
+    let mut map = ImageMap::new();
+    for number in 0..count {
+        put(alloc, &mut map, number)?;
+    }
+    Ok(map)
+}
+
+// What a pair of texts has, by a look-up that is counted.
+fn ask_counted<'f, L: Ledger>(
+    frozen: &'f Frozen<'_>,
+    key0: &str,
+    key1: &str,
+    blank: Blank,
+) -> Option<VarRef<'f, SliceULE<u8>>>
+    requires name { blank.name ≡ L.name }
+    requires parts { blank.parts ≡ L.parts }
+    requires some { 0 < blank.parts }
+{
+    let mut steps = Steps::<L>::start(blank);
+    frozen.get_counted(key0, key1, &mut steps)
+}
+
+// Whether the pair of a number has it, counted or not, or has nothing where it is not put.
+fn is_asked(
+    alloc: Global,
+    frozen: &Frozen<'_>,
+    number: u16,
+    is_put: bool,
+) -> Result<bool, AllocError> {
+    let (key0, key1) = (text(alloc, number / 128)?, text(alloc, number)?);
+    let (key0, key1) = (key0.as_str(), key1.as_str());
+    let value = frozen.get(key0, key1);
+    let again = ask_counted::<Brand>(frozen, key0, key1, Blank::new(1));
+    let bytes = number.to_le_bytes();
+    match (value, again) {
+        (Some(value), Some(again)) => Ok(
+            is_put && value.as_bytes() == bytes.as_slice() && again.as_bytes() == bytes.as_slice(),
+        ),
+        (None, None) => Ok(!is_put),
+        _ => Ok(false),
+    }
+}
+
+#[test]
+fn as_many_pairs_as_fit_are_found(rt: HostRuntime) -> Result<(), Fail> {
+    let alloc = rt.alloc();
+    let map = map_of(alloc, MOST)?;
+    let bytes = freeze(alloc, &map)?;
+    let frozen = Frozen::parse(&bytes)?;
+    assert!(rt; frozen.len() == MOST as usize);
+    for number in 0..16_384 {
+        assert!(rt; is_asked(alloc, &frozen, number, number < MOST)?);
+    }
+    Ok(())
+}
+
+#[test]
+fn one_pair_more_is_too_large(rt: HostRuntime) -> Result<(), Fail> {
+    let map = map_of(rt.alloc(), MOST + 1)?;
+    let frozen = freeze(rt.alloc(), &map);
+    assert!(rt; matches!(frozen, Err(FreezeError::TooLarge)));
+    Ok(())
+}
