@@ -9,7 +9,7 @@ use std::test::Fail;
 use zv_frozen::{FreezeError, Frozen, freeze};
 use zv_map::FlexULE;
 use zv_map2d::ImageMap;
-use zv_ule::{SliceULE, Steps, VarRef};
+use zv_ule::{Steps, VarRef};
 
 // How many keys of two texts of one byte fit in a list with fields of two bytes: each takes eight
 // of 65,535 bytes.
@@ -48,19 +48,26 @@ fn map_of(alloc: Global, count: u16) -> Result<ImageMap<'static>, Fail> {
     Ok(map)
 }
 
-// What a pair of texts has, by a look-up that is counted.
-fn ask_counted<'f, L: Ledger>(
-    frozen: &'f Frozen<'_>,
-    key0: &str,
-    key1: &str,
+// Whether a look-up that is counted answers as one that isn't. (A caller can't name the ledger of
+// a call that is given a `&str`.)
+fn is_counted_alike<L: Ledger>(
+    frozen: &Frozen<'_>,
+    key0: &String,
+    key1: &String,
     blank: Blank,
-) -> Option<VarRef<'f, SliceULE<u8>>>
+) -> bool
     requires name { blank.name ≡ L.name }
     requires parts { blank.parts ≡ L.parts }
     requires some { 0 < blank.parts }
 {
     let mut steps = Steps::<L>::start(blank);
-    frozen.get_counted(key0, key1, &mut steps)
+    let (key0, key1) = (key0.as_str(), key1.as_str());
+    let counted = frozen.get_counted(key0, key1, &mut steps);
+    match (frozen.get(key0, key1), counted) {
+        (Some(value), Some(counted)) => value.as_bytes() == counted.as_bytes(),
+        (None, None) => true,
+        _ => false,
+    }
 }
 
 // Whether the pair of a number has it, counted or not, or has nothing where it is not put.
@@ -71,17 +78,11 @@ fn is_asked(
     is_put: bool,
 ) -> Result<bool, AllocError> {
     let (key0, key1) = (text(alloc, number / 128)?, text(alloc, number)?);
-    let (key0, key1) = (key0.as_str(), key1.as_str());
-    let value = frozen.get(key0, key1);
-    let again = ask_counted::<Brand>(frozen, key0, key1, Blank::new(1));
-    let bytes = number.to_le_bytes();
-    match (value, again) {
-        (Some(value), Some(again)) => Ok(
-            is_put && value.as_bytes() == bytes.as_slice() && again.as_bytes() == bytes.as_slice(),
-        ),
-        (None, None) => Ok(!is_put),
-        _ => Ok(false),
-    }
+    let is_told = match frozen.get(key0.as_str(), key1.as_str()) {
+        Some(value) => is_put && value.as_bytes() == number.to_le_bytes().as_slice(),
+        None => !is_put,
+    };
+    Ok(is_told && is_counted_alike::<Brand>(frozen, &key0, &key1, Blank::new(1)))
 }
 
 #[test]

@@ -1,4 +1,4 @@
 use Rattle.zv_frozen_tests.proofs.many.is_asked.Given as goal
 
-abbrev pub ghosts-ask_counted-again : goal.ghosts-ask_counted-again
-ghosts-ask_counted-again a = record { name = a.blank.name; parts = a.blank.parts }
+abbrev pub ghosts-is_counted_alike : goal.ghosts-is_counted_alike
+ghosts-is_counted_alike a = record { name = a.blank.name; parts = a.blank.parts }
