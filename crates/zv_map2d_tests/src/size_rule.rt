@@ -47,7 +47,9 @@ where
     C1: MutableZeroVecLike<'a, StrULE>,
     D: MutableZeroVecLike<'a, SliceULE<u8>>,
 {
-    let refused = map.insert(alloc, &key0, &key1, &VarRef::of_bytes(&[1])).err();
+    let refused = map
+        .insert(alloc, &key0, &key1, &VarRef::of_bytes(&[1]))
+        .err();
     refused == Some(Map2dError::TooLarge)
 }
 
