@@ -46,8 +46,6 @@ fn a_map_of_one_pair(rt: HostRuntime) -> Result<(), Fail> {
     let alloc = rt.alloc();
     let mut map = ZeroMap2d::<'_, u16, u16, StrULE>::new();
     map.insert(alloc, &1, &2, &"three")?;
-    is_written(&rt, alloc, &map, THREE)?;
-    let map = ZeroMap2d::<'_, u16, u16, StrULE>::try_from_triples(alloc, &[(1, 2, "three")])?;
     is_written(&rt, alloc, &map, THREE)
 }
 

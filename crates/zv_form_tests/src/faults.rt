@@ -1,21 +1,17 @@
 // Bytes that are no framed form: each cause, and the first of two.
 ghost use Rattle.std.specs.Prelude.{◌≡◌, IsTrue};
 
-use crate::forms::{MAP, MAP2D, TABLE};
-use std::alloc::Global;
 use std::num::NonZeroU8;
 use std::process::Abort;
 use std::test::Fail;
 use zv_fixed::ZeroVec;
 use zv_framed::{FormError, Framed};
-use zv_hashmap::ZeroHashMap;
-use zv_map1::ZeroMap;
 use zv_map2d::ZeroMap2d;
 use zv_owned::VarZeroVec;
 use zv_ule::{Index16, StrULE, TyName, UleError};
 
-// Bytes, and why they are no form.
-type Case<'a> = (&'a [u8], FormError);
+/// Bytes, and why they are no form.
+pub type Case<'a> = (&'a [u8], FormError);
 
 // The errors of parts that are no list of numbers of two bytes, of four, of pairs of numbers.
 const ODD_BYTE: FormError = FormError::Part(UleError::InvalidLength {
@@ -43,8 +39,8 @@ const NO_TEXTS: FormError = FormError::Part(UleError::ParseError {
     ty: TyName::VarZeroSlice,
 });
 
-// Each of the bytes is refused so.
-fn are_refused<'a, F: Framed<'a> + Drop>(rt: &impl Abort, cases: &[Case<'a>])
+/// Each of the bytes is refused so.
+pub fn are_refused<'a, F: Framed<'a> + Drop>(rt: &impl Abort, cases: &[Case<'a>])
     requires { IsTrue F.usable }
 {
     for (bytes, error) in cases {
@@ -76,8 +72,8 @@ fn of_lists(rt: HostRuntime) {
     are_refused::<VarZeroVec<'_, StrULE, Index16>>(&rt, TEXTS);
 }
 
-// Keys of one byte, and values that are a text.
-const MAPS: &[Case<'_>] = &[
+/// Maps from numbers of four bytes to texts.
+pub const MAPS: &[Case<'_>] = &[
     // bad keys; bad values; both
     (
         b"\x03\0\0\0\0\0\0\0\x01\0\0\x03\0\0\0\0\0\0\0\x01\0a",
@@ -118,12 +114,12 @@ const MAPS: &[Case<'_>] = &[
         b"\x08\0\0\0\0\0\0\0\x02\0\0\0\x01\0\0\0\x03\0\0\0\0\0\0\0\x01\0a",
         FormError::Count,
     ),
+    // a map and a byte behind
+    (
+        b"\x04\0\0\0\0\0\0\0\x01\0\0\0\x03\0\0\0\0\0\0\0\x01\0a\0",
+        FormError::Frame,
+    ),
 ];
-
-#[test]
-fn of_maps(rt: HostRuntime) {
-    are_refused::<ZeroMap<'_, u32, StrULE>>(&rt, MAPS);
-}
 
 // Maps in two levels whose keys are bytes that aren't 0.
 const MAPS2D: &[Case<'_>] = &[
@@ -225,6 +221,12 @@ const MAPS2D: &[Case<'_>] = &[
         \x02\0\0\0\0\0\0\0\x02\x01\x06\0\0\0\0\0\0\0\x02\0\x01\0ab",
         FormError::KeyOrder,
     ),
+    // a map and a byte behind
+    (
+        b"\x01\0\0\0\0\0\0\0\x01\x04\0\0\0\0\0\0\0\x01\0\0\0\
+        \x01\0\0\0\0\0\0\0\x01\x03\0\0\0\0\0\0\0\x01\0a\0",
+        FormError::Frame,
+    ),
 ];
 
 #[test]
@@ -235,7 +237,8 @@ fn of_maps_in_two_levels(rt: HostRuntime) {
     }
 }
 
-const TABLES: &[Case<'_>] = &[
+/// Hash tables from numbers of four bytes to texts.
+pub const TABLES: &[Case<'_>] = &[
     // displacements that are none; that, and keys that are none; keys that are none, and a value
     // without a displacement
     (
@@ -259,46 +262,9 @@ const TABLES: &[Case<'_>] = &[
         b"\0\0\0\0\0\0\0\0\0\0\0\0\0\0\0\0\x03\0\0\0\0\0\0\0\x01\0a",
         FormError::Count,
     ),
+    // a table of no keys and a byte behind
+    (&[0; 25], FormError::Frame),
 ];
-
-#[test]
-fn of_hash_tables(rt: HostRuntime) {
-    are_refused::<ZeroHashMap<'_, u32, StrULE>>(&rt, TABLES);
-}
-
-// A form with a byte behind it is none.
-fn is_whole<'a, F: Framed<'a> + Drop>(rt: &impl Abort, longer: &'a [u8])
-    requires { IsTrue F.usable }
-{
-    assert!(rt; F::parse_framed(longer).err() == Some(FormError::Frame));
-}
-
-// The bytes and one more.
-fn longer(alloc: Global, bytes: &[u8]) -> Result<Vec<u8>, Fail> {
-    let mut longer = Vec::from_slice(alloc, bytes)?;
-    longer.push(0)?;
-    Ok(longer)
-}
-
-#[test]
-fn bytes_behind_a_map(rt: HostRuntime) -> Result<(), Fail> {
-    is_whole::<ZeroMap<'_, u32, StrULE>>(&rt, &longer(rt.alloc(), MAP)?);
-    Ok(())
-}
-
-#[test]
-fn bytes_behind_a_map_in_two_levels(rt: HostRuntime) -> Result<(), Fail> {
-    let longer = longer(rt.alloc(), MAP2D)?;
-    let refusal = ZeroMap2d::<'_, u32, u16, StrULE>::parse_framed(&longer).err();
-    assert!(&rt; refusal == Some(FormError::Frame));
-    Ok(())
-}
-
-#[test]
-fn bytes_behind_a_hash_table(rt: HostRuntime) -> Result<(), Fail> {
-    is_whole::<ZeroHashMap<'_, u32, StrULE>>(&rt, &longer(rt.alloc(), TABLE)?);
-    Ok(())
-}
 
 #[test]
 fn errors_print(rt: HostRuntime) -> Result<(), Fail> {

@@ -1,6 +1,7 @@
 // Framed forms that are read, and written again as they were.
 ghost use Rattle.std.specs.Prelude.{◌≡◌, IsTrue};
 
+use crate::faults::{Case, MAPS, TABLES, are_refused};
 use std::alloc::Global;
 use std::process::Abort;
 use std::test::Fail;
@@ -106,11 +107,31 @@ pub const TABLE: &[u8] = b"\
     \x0c\0\0\0\0\0\0\0\x01\0\0\0\x02\0\0\0\0\0\0\0\
     \x09\0\0\0\0\0\0\0\x03\0\x01\0\x02\0bca";
 
-// Each of them with pairs, and with none.
+// Each of these bytes is a form, and each of the cases is none. (A proof about a kind of map takes
+// half a minute, so one test says all of it.)
+fn is_read<'a, F: Framed<'a> + Drop>(
+    rt: &impl Abort,
+    alloc: Global,
+    forms: &[&'a [u8]],
+    cases: &[Case<'a>],
+) -> Result<(), Fail>
+    requires { IsTrue F.usable }
+{
+    for bytes in forms {
+        is_form::<F>(rt, alloc, bytes)?;
+    }
+    are_refused::<F>(rt, cases);
+    Ok(())
+}
+
 #[test]
 fn maps(rt: HostRuntime) -> Result<(), Fail> {
-    is_form::<ZeroMap<'_, u32, StrULE>>(&rt, rt.alloc(), MAP)?;
-    is_form::<ZeroMap<'_, u32, StrULE>>(&rt, rt.alloc(), &[0; 16])
+    is_read::<ZeroMap<'_, u32, StrULE>>(&rt, rt.alloc(), &[MAP, &[0; 16]], MAPS)
+}
+
+#[test]
+fn hash_tables(rt: HostRuntime) -> Result<(), Fail> {
+    is_read::<ZeroHashMap<'_, u32, StrULE>>(&rt, rt.alloc(), &[TABLE, &[0; 24]], TABLES)
 }
 
 // A map in two levels that is read where it stands is written as it was, and no front of it is one.
@@ -125,10 +146,4 @@ fn maps_in_two_levels(rt: HostRuntime) -> Result<(), Fail> {
         }
     }
     Ok(())
-}
-
-#[test]
-fn hash_tables(rt: HostRuntime) -> Result<(), Fail> {
-    is_form::<ZeroHashMap<'_, u32, StrULE>>(&rt, rt.alloc(), TABLE)?;
-    is_form::<ZeroHashMap<'_, u32, StrULE>>(&rt, rt.alloc(), &[0; 24])
 }
