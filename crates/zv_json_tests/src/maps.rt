@@ -55,47 +55,32 @@ const PAIRS: [Case<'_>; 5] = [
     Refused("{\"1\":\"uno\"}", Shape),
 ];
 
-// Maps of characters and of numbers with a sign.
-const LETTERS: [Case<'_>; 3] = [
-    Same("{\"a\":-1,\"ω\":2}"),
-    Refused("{\"ab\":1}", BadKey),
-    Refused("{\"\":1}", BadKey),
-];
-
+// Maps whose keys are numbers with a sign.
 const SIGNED: [Case<'_>; 5] = [
-    Same("{\"-128\":1,\"0\":2,\"127\":3}"),
+    Same("{\"-128\":-1,\"0\":2,\"127\":3}"),
     Refused("{\"128\":1}", BadKey),
     Refused("{\"-129\":1}", BadKey),
     Refused("{\"-0\":1}", BadKey),
     Refused("{\"-01\":1}", BadKey),
 ];
 
-const WIDE_KEYS: [Case<'_>; 2] = [
-    Same("{\"340282366920938463463374607431768211455\":1}"),
-    Refused("{\"340282366920938463463374607431768211456\":1}", BadKey),
-];
-
-// Maps in two levels, and what they are written as.
-const ROWS: [(&str, &str); 4] = [
+// Maps in two levels, and what they are written as, and texts that are none.
+const ROWS: [(&str, Result<&str, JsonError>); 9] = [
     (
         "{\"1\":{\"1\":\"uno\"},\"2\":{\"2\":\"dos\",\"3\":\"tres\"}}",
-        "{\"1\":{\"1\":\"uno\"},\"2\":{\"2\":\"dos\",\"3\":\"tres\"}}",
+        Ok("{\"1\":{\"1\":\"uno\"},\"2\":{\"2\":\"dos\",\"3\":\"tres\"}}"),
     ),
-    ("{}", "{}"),
-    ("{\"1\":{}}", "{}"),
+    ("{}", Ok("{}")),
+    ("{\"1\":{}}", Ok("{}")),
     (
         "{\"1\":{},\"2\":{\"2\":\"dos\"}}",
-        "{\"2\":{\"2\":\"dos\"}}",
+        Ok("{\"2\":{\"2\":\"dos\"}}"),
     ),
-];
-
-// Texts that are none.
-const NO_ROWS: [(&str, JsonError); 5] = [
-    ("{\"1\":7}", Shape),
-    ("{\"01\":7}", BadKey),
-    ("{\"1\":{\"65536\":\"uno\"}}", BadKey),
-    ("{\"1\":{\"1\":7}}", Shape),
-    ("[]", Shape),
+    ("{\"1\":7}", Err(Shape)),
+    ("{\"01\":7}", Err(BadKey)),
+    ("{\"1\":{\"65536\":\"uno\"}}", Err(BadKey)),
+    ("{\"1\":{\"1\":7}}", Err(Shape)),
+    ("[]", Err(Shape)),
 ];
 
 // Hash tables.
@@ -116,38 +101,26 @@ fn maps_are_objects_or_arrays_of_pairs(rt: HostRuntime) -> Result<(), Fail> {
     let alloc = rt.alloc();
     reads::<'_, ZeroMap<'_, u32, StrULE>>(&rt, alloc, &NAMES)?;
     reads::<'_, ZeroMap<'_, (u32, u32), StrULE>>(&rt, alloc, &PAIRS)?;
-    reads::<'_, ZeroMap<'_, char, i8>>(&rt, alloc, &LETTERS)?;
-    reads::<'_, ZeroMap<'_, i8, u8>>(&rt, alloc, &SIGNED)?;
-    reads::<'_, ZeroMap<'_, u128, u8>>(&rt, alloc, &WIDE_KEYS)
+    reads::<'_, ZeroMap<'_, i8, i8>>(&rt, alloc, &SIGNED)
 }
 
+// (A proof about a kind of map takes half a minute, so one test says all that is read of it.)
 #[test]
 fn maps_in_two_levels_are_objects_of_objects(rt: HostRuntime) -> Result<(), Fail> {
     let alloc = rt.alloc();
     for (text, wanted) in ROWS {
-        let map = ZeroMap2d::<'_, u32, u16, StrULE>::from_json_text(alloc, text)?;
-        is_text(&rt, alloc, &map.to_json(alloc)?, wanted)?;
+        match ZeroMap2d::<'_, u32, u16, StrULE>::from_json_text(alloc, text) {
+            Ok(map) => is_text(&rt, alloc, &map.to_json(alloc)?, wanted.unwrap_or(""))?,
+            Err(error) => assert!(&rt; wanted == Err(error), "{text}"),
+        }
     }
     Ok(())
 }
 
 #[test]
-fn other_texts_are_no_maps_in_two_levels(rt: HostRuntime) {
-    let alloc = rt.alloc();
-    for (text, error) in NO_ROWS {
-        let refusal = ZeroMap2d::<'_, u32, u16, StrULE>::from_json_text(alloc, text).err();
-        assert!(&rt; refusal == Some(error), "{text}");
-    }
-}
-
-#[test]
 fn hash_tables_are_their_three_vectors(rt: HostRuntime) -> Result<(), Fail> {
-    reads::<'_, ZeroHashMap<'_, u32, StrULE>>(&rt, rt.alloc(), &TABLES)
-}
-
-#[test]
-fn a_table_that_is_read_finds_its_keys(rt: HostRuntime) -> Result<(), Fail> {
     let alloc = rt.alloc();
+    reads::<'_, ZeroHashMap<'_, u32, StrULE>>(&rt, alloc, &TABLES)?;
     let text = "[[[0,0],[0,1],[0,1]],[1,2,0],[\"b\",\"c\",\"a\"]]";
     let table = ZeroHashMap::<'_, u32, StrULE>::from_json_text(alloc, text)?;
     assert!(&rt; table.get(&0).map(|name| name.as_str()) == Some("a"));
