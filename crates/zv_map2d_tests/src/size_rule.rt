@@ -69,38 +69,24 @@ where
     ]
 }
 
-// Beside the longest value no pair is taken, in its row or in another one.
-fn has_no_room_beside<'a, C0, C1, D>(rt: &impl Abort, alloc: Global) -> Result<(), Fail>
+// A value longer by one is refused. Beside the longest value no pair is taken, in its row or in
+// another one; it is replaced by another as long, and that by a short one.
+fn keeps_to_the_size_rule<'a, C0, C1, D>(rt: &impl Abort, alloc: Global) -> Result<(), Fail>
 where
     C0: MutableZeroVecLike<'a, StrULE>,
     C1: MutableZeroVecLike<'a, StrULE>,
     D: MutableZeroVecLike<'a, SliceULE<u8>, OwnedType = VarBox<SliceULE<u8>>>,
 {
     let mut map = Texts::<'a, C0, C1, D>::new();
-    let value = vec![in alloc; 7u8; LONGEST]?;
-    assert!(rt; put_value(alloc, &mut map, &value)?.is_none());
+    let longer = vec![in alloc; 7u8; LONGEST + 1]?;
+    assert!(rt; put_value(alloc, &mut map, &longer).err() == Some(Map2dError::TooLarge));
+    assert!(rt; lens(&map) == [0, 0, 0, 0]);
+    let (first, second) = (vec![in alloc; 7u8; LONGEST]?, vec![in alloc; 8u8; LONGEST]?);
+    assert!(rt; put_value(alloc, &mut map, &first)?.is_none());
     assert!(rt; refuses_pair(alloc, &mut map, "a", "c"));
     assert!(rt; refuses_pair(alloc, &mut map, "c", "d"));
     assert!(rt; map.get0(&"c").is_none());
     assert!(rt; lens(&map) == [3, 4, 3, 65_536]);
-    Ok(())
-}
-
-#[test]
-fn no_pair_is_taken_beside_the_longest_value(rt: HostRuntime) -> Result<(), Fail> {
-    has_no_room_beside::<Of<'_, StrULE>, Of<'_, StrULE>, Of<'_, SliceULE<u8>>>(&rt, rt.alloc())
-}
-
-// The longest value is replaced by another as long, and that by a short one.
-fn replaces_longest<'a, C0, C1, D>(rt: &impl Abort, alloc: Global) -> Result<(), Fail>
-where
-    C0: MutableZeroVecLike<'a, StrULE>,
-    C1: MutableZeroVecLike<'a, StrULE>,
-    D: MutableZeroVecLike<'a, SliceULE<u8>, OwnedType = VarBox<SliceULE<u8>>>,
-{
-    let mut map = Texts::<'a, C0, C1, D>::new();
-    let (first, second) = (vec![in alloc; 7u8; LONGEST]?, vec![in alloc; 8u8; LONGEST]?);
-    assert!(rt; put_value(alloc, &mut map, &first)?.is_none());
     assert!(rt; is_before(put_value(alloc, &mut map, &second)?, &first));
     assert!(rt; is_before(put_value(alloc, &mut map, &[2])?, &second));
     assert!(rt; map.canon_parts().values == [1, 0, 2].as_slice());
@@ -108,25 +94,6 @@ where
 }
 
 #[test]
-fn the_longest_value_is_replaced(rt: HostRuntime) -> Result<(), Fail> {
-    replaces_longest::<Of<'_, StrULE>, Of<'_, StrULE>, Of<'_, SliceULE<u8>>>(&rt, rt.alloc())
-}
-
-// A value longer by one is taken by no map.
-fn refuses_longer<'a, C0, C1, D>(rt: &impl Abort, alloc: Global) -> Result<(), Fail>
-where
-    C0: MutableZeroVecLike<'a, StrULE>,
-    C1: MutableZeroVecLike<'a, StrULE>,
-    D: MutableZeroVecLike<'a, SliceULE<u8>, OwnedType = VarBox<SliceULE<u8>>>,
-{
-    let mut map = Texts::<'a, C0, C1, D>::new();
-    let value = vec![in alloc; 7u8; LONGEST + 1]?;
-    assert!(rt; put_value(alloc, &mut map, &value).err() == Some(Map2dError::TooLarge));
-    assert!(rt; lens(&map) == [0, 0, 0, 0]);
-    Ok(())
-}
-
-#[test]
-fn a_value_longer_by_one_is_refused(rt: HostRuntime) -> Result<(), Fail> {
-    refuses_longer::<Of<'_, StrULE>, Of<'_, StrULE>, Of<'_, SliceULE<u8>>>(&rt, rt.alloc())
+fn lists_end_at_64_kilobytes(rt: HostRuntime) -> Result<(), Fail> {
+    keeps_to_the_size_rule::<Of<'_, StrULE>, Of<'_, StrULE>, Of<'_, SliceULE<u8>>>(&rt, rt.alloc())
 }
