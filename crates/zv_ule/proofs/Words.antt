@@ -1,32 +1,39 @@
--- Four bytes compare as the number that they are.
-use Rattle.zv_ule.proofs.Common.{◌≡◌, ℕ, ◌+◌, ◌-◌, ◌*◌, ◌<◌, ◌≤◌, List, [], ◌∷◌, length, drop, take, length-drop, drop-drop, get_or, refl, sym, subst, ap, ◌∙◌}
+-- Four or eight bytes compare as the number that they are.
+use Rattle.zv_ule.proofs.Common.{◌≡◌, ℕ, ◌+◌, ◌*◌, ◌<◌, ◌≤◌, List, [], ◌∷◌, length, drop, take, length-drop, drop-drop, get_or, refl, sym}
+use Rattle.zv_ule.proofs.Common.{ap, ◌∙◌, subst, suc, zero}
 use Rattle.zv_ule.proofs.Common.{arith, nat_cmp_is, slice_cmp, nat_cmp, ordering_then, Ordering, Less, Equal, Greater}
-use Rattle.std.proofs.Common.{take_all, get_or-drop, Fits, w8}
+use Rattle.std.proofs.Common.{get_or-drop, Fits, w8}
+use Rattle.std.proofs.Math.Nat.{mul-le-mul_right}
+use Rattle.std.proofs.lemmas.List.{length-take-le, get_or-take}
+use Rattle.std.proofs.lemmas.Nat.{be_bytes_4, be_bytes_8}
 use Rattle.std.specs.Cmp.{ranked}
-use Rattle.std.specs.Int.{from_be_bytes, w32}
+use Rattle.std.specs.Int.{from_be_bytes, to_be_bytes, w32, w64}
 use Rattle.std.specs.Ordering.{MatchOrdering}
+use Rattle.zv_ule.specs.Fronts.{OrdersFront}
+use Rattle.zv_ule.proofs.Fronts.{front_first}
 
--- one byte more: the bytes before it decide, and where they are equal it does
-digit : (a b m n : ℕ) → m < 256 → n < 256 → ordering_then (nat_cmp a b) (nat_cmp m n) ≡ nat_cmp (a * 256 + m) (b * 256 + n)
-digit a b m n lm ln = nat_cmp_is (a * 256 + m) (b * 256 + n) _ (by (nat_cmp a b) (nat_cmp m n) (ranked a b _ refl) (ranked m n _ refl))
+abbrev pub AreBytes : List ℕ → Type 0
+AreBytes xs = (i : ℕ) → Fits w8 (get_or xs i 0)
+
+-- one digit more: the digits before it decide, and where they are equal it does
+digit : (base a b m n : ℕ) → m < base → n < base → ordering_then (nat_cmp a b) (nat_cmp m n) ≡ nat_cmp (a * base + m) (b * base + n)
+digit base a b m n lm ln = nat_cmp_is (a * base + m) (b * base + n) _ (by (nat_cmp a b) (nat_cmp m n) (ranked a b _ refl) (ranked m n _ refl))
   where
+    less : (a b m n : ℕ) → m < base → a < b → a * base + m < b * base + n
+    less a b m n lm h = omega (arith, mul-le-mul_right base h)
+
     by : (o p : Ordering) → MatchOrdering o (a < b) (a ≡ b) (b < a) → MatchOrdering p (m < n) (m ≡ n) (n < m)
-        → MatchOrdering (ordering_then o p) (a * 256 + m < b * 256 + n) (a * 256 + m ≡ b * 256 + n) (b * 256 + n < a * 256 + m)
-    by Less p h l = omega arith
-    by Greater p h l = omega arith
-    by Equal Less h l = omega arith
-    by Equal Equal h l = omega arith
-    by Equal Greater h l = omega arith
+        → MatchOrdering (ordering_then o p) (a * base + m < b * base + n) (a * base + m ≡ b * base + n) (b * base + n < a * base + m)
+    by Less p h l = less a b m n lm h
+    by Greater p h l = less b a n m ln h
+    by Equal Less h l = omega (arith, ap (λ k. k * base) h)
+    by Equal Equal h l = omega (arith, ap (λ k. k * base) h)
+    by Equal Greater h l = omega (arith, ap (λ k. k * base) h)
 
 then_assoc : (a b c : Ordering) → ordering_then (ordering_then a b) c ≡ ordering_then a (ordering_then b c)
 then_assoc Less b c = refl
 then_assoc Equal b c = refl
 then_assoc Greater b c = refl
-
-pub then_kept : (o r : Ordering) → (o ≡ Equal → ⊥) → o ≡ ordering_then o r
-then_kept Less r other = refl
-then_kept Equal r other = absurd (other refl)
-then_kept Greater r other = refl
 
 four : (a : List ℕ) → 4 ≤ length a → a ≡ get_or a 0 0 ∷ (get_or a 1 0 ∷ (get_or a 2 0 ∷ (get_or a 3 0 ∷ drop 4 a)))
 four [] long = absurd (omega arith)
@@ -35,17 +42,17 @@ four (a ∷ (b ∷ [])) long = absurd (omega arith)
 four (a ∷ (b ∷ (c ∷ []))) long = absurd (omega arith)
 four (a ∷ (b ∷ (c ∷ (d ∷ rest)))) long = refl
 
-words_first : (a b : List ℕ) → 4 ≤ length a → 4 ≤ length b → ((i : ℕ) → Fits w8 (get_or a i 0)) → ((i : ℕ) → Fits w8 (get_or b i 0))
+by_four : (a b : List ℕ) → 4 ≤ length a → 4 ≤ length b → AreBytes a → AreBytes b
     → ordering_then (nat_cmp (from_be_bytes w32 a) (from_be_bytes w32 b)) (slice_cmp nat_cmp (drop 4 a) (drop 4 b)) ≡ slice_cmp nat_cmp a b
-words_first a b la lb fa fb =
+by_four a b la lb fa fb =
     let at : List ℕ → ℕ → ℕ = λ xs k. get_or xs k 0 in
     let byte : ℕ → Ordering = λ k. nat_cmp (at a k) (at b k) in
     let after : Ordering = slice_cmp nat_cmp (drop 4 a) (drop 4 b) in
     let whole : (xs : List ℕ) → ((at xs 0 * 256 + at xs 1) * 256 + at xs 2) * 256 + at xs 3 ≡ from_be_bytes w32 xs = λ xs. omega arith in
-    let two = digit (at a 0) (at b 0) (at a 1) (at b 1) (omega (arith, fa 1)) (omega (arith, fb 1)) in
-    let three = digit (at a 0 * 256 + at a 1) (at b 0 * 256 + at b 1) (at a 2) (at b 2) (omega (arith, fa 2)) (omega (arith, fb 2)) in
+    let two = digit 256 (at a 0) (at b 0) (at a 1) (at b 1) (omega (arith, fa 1)) (omega (arith, fb 1)) in
+    let three = digit 256 (at a 0 * 256 + at a 1) (at b 0 * 256 + at b 1) (at a 2) (at b 2) (omega (arith, fa 2)) (omega (arith, fb 2)) in
     let front : List ℕ → ℕ = λ xs. (at xs 0 * 256 + at xs 1) * 256 + at xs 2 in
-    let all = digit (front a) (front b) (at a 3) (at b 3) (omega (arith, fa 3)) (omega (arith, fb 3)) in
+    let all = digit 256 (front a) (front b) (at a 3) (at b 3) (omega (arith, fa 3)) (omega (arith, fb 3)) in
     let word : ordering_then (ordering_then (ordering_then (byte 0) (byte 1)) (byte 2)) (byte 3) ≡ nat_cmp (from_be_bytes w32 a) (from_be_bytes w32 b) =
     ap (λ o. ordering_then (ordering_then o (byte 2)) (byte 3)) two ∙ ap (λ o. ordering_then o (byte 3)) three ∙ all
     ∙ (λ i. nat_cmp (whole a i) (whole b i)) in
@@ -53,16 +60,64 @@ words_first a b la lb fa fb =
     ∙ then_assoc (ordering_then (byte 0) (byte 1)) (byte 2) (ordering_then (byte 3) after) ∙ then_assoc (byte 0) (byte 1) _
     ∙ (λ i. slice_cmp nat_cmp (sym (four a la) i) (sym (four b lb) i))
 
--- the same for the numbers at a place
-pub words_at : (k : ℕ) (a b : List ℕ) (o : Ordering) (m n : ℕ) → o ≡ nat_cmp m n → k + 4 ≤ length a → k + 4 ≤ length b
-    → ((i : ℕ) → Fits w8 (get_or a i 0)) → ((i : ℕ) → Fits w8 (get_or b i 0))
-    → m ≡ from_be_bytes w32 (take (length a - k) (drop k a)) → n ≡ from_be_bytes w32 (take (length b - k) (drop k b))
-    → ordering_then o (slice_cmp nat_cmp (drop (k + 4) a) (drop (k + 4) b)) ≡ slice_cmp nat_cmp (drop k a) (drop k b)
-words_at k a b o m n is_o la lb fa fb is_m is_n =
-    let rest : (xs : List ℕ) → take (length xs - k) (drop k xs) ≡ drop k xs = λ xs. take_all (length xs - k) (drop k xs) (omega (arith, length-drop k xs)) in
-    let fits : (xs : List ℕ) → ((i : ℕ) → Fits w8 (get_or xs i 0)) → (i : ℕ) → Fits w8 (get_or (drop k xs) i 0) =
-    λ xs f j. subst (Fits w8) (sym (get_or-drop k xs j 0)) (f (k + j)) in
-    ap (λ p. ordering_then p (slice_cmp nat_cmp (drop (k + 4) a) (drop (k + 4) b))) is_o
-    ∙ (λ i. ordering_then (nat_cmp ((is_m ∙ ap (from_be_bytes w32) (rest a)) i) ((is_n ∙ ap (from_be_bytes w32) (rest b)) i))
-    (slice_cmp nat_cmp (sym (drop-drop 4 k a) i) (sym (drop-drop 4 k b) i)))
-    ∙ words_first (drop k a) (drop k b) (omega (arith, length-drop k a)) (omega (arith, length-drop k b)) (fits a fa) (fits b fb)
+bytes_behind : (xs : List ℕ) → AreBytes xs → AreBytes (drop 4 xs)
+bytes_behind xs fits i = subst (Fits w8) (sym (get_or-drop 4 xs i 0)) (fits (4 + i))
+
+-- eight bytes are two numbers of four
+by_eight : (a b : List ℕ) → 8 ≤ length a → 8 ≤ length b → AreBytes a → AreBytes b
+    → ordering_then (nat_cmp (from_be_bytes w64 a) (from_be_bytes w64 b)) (slice_cmp nat_cmp (drop 8 a) (drop 8 b)) ≡ slice_cmp nat_cmp a b
+by_eight a b la lb fa fb =
+    let low : List ℕ → ℕ = λ xs. from_be_bytes w32 (drop 4 xs) in
+    let low_fits : (xs : List ℕ) → AreBytes (drop 4 xs) → low xs < 4294967296 = λ xs f. omega (arith, f 0, f 1, f 2, f 3) in
+    let whole : (xs : List ℕ) → from_be_bytes w32 xs * 4294967296 + low xs ≡ from_be_bytes w64 xs =
+    λ xs. omega (arith, get_or-drop 4 xs 0 0, get_or-drop 4 xs 1 0, get_or-drop 4 xs 2 0, get_or-drop 4 xs 3 0) in
+    let two = digit 4294967296 (from_be_bytes w32 a) (from_be_bytes w32 b) (low a) (low b)
+    (low_fits a (bytes_behind a fa)) (low_fits b (bytes_behind b fb)) in
+    (λ i. ordering_then ((sym (two ∙ (λ j. nat_cmp (whole a j) (whole b j)))) i)
+    (slice_cmp nat_cmp (sym (drop-drop 4 4 a) i) (sym (drop-drop 4 4 b) i)))
+    ∙ then_assoc (nat_cmp (from_be_bytes w32 a) (from_be_bytes w32 b)) (nat_cmp (low a) (low b)) _
+    ∙ ap (ordering_then (nat_cmp (from_be_bytes w32 a) (from_be_bytes w32 b)))
+    (by_four (drop 4 a) (drop 4 b) (omega (arith, length-drop 4 a)) (omega (arith, length-drop 4 b)) (bytes_behind a fa) (bytes_behind b fb))
+    ∙ by_four a b (omega arith) (omega arith) fa fb
+
+bytes_in : (n : ℕ) (xs : List ℕ) → AreBytes xs → (i : ℕ) → get_or (take n xs) i 0 < 256
+bytes_in zero xs fits i = omega arith
+bytes_in (suc n) [] fits i = omega arith
+bytes_in (suc n) (x ∷ xs) fits zero = omega (arith, fits zero)
+bytes_in (suc n) (x ∷ xs) fits (suc i) = bytes_in n xs (λ j. fits (suc j)) i
+
+spelled_four : (xs : List ℕ) → 4 ≤ length xs → AreBytes xs → to_be_bytes w32 (from_be_bytes w32 xs) ≡ take 4 xs
+spelled_four xs long fits =
+    let at : (k : ℕ) → k < 4 → get_or (take 4 xs) k 0 ≡ get_or xs k 0 = λ k. get_or-take 4 xs k 0 in
+    be_bytes_4 (take 4 xs) (from_be_bytes w32 xs) (length-take-le 4 xs long) (bytes_in 4 xs fits)
+    (omega (arith, at 0 (omega arith), at 1 (omega arith), at 2 (omega arith), at 3 (omega arith)))
+
+pub four_first : (a b : List ℕ) (m n : ℕ) (o : Ordering) → 4 ≤ length a → 4 ≤ length b → AreBytes a → AreBytes b
+    → m ≡ from_be_bytes w32 a → n ≡ from_be_bytes w32 b → o ≡ nat_cmp m n → OrdersFront a b 4 o
+four_first a b m n o la lb fa fb is_m is_n is_o =
+    let rest : Ordering = slice_cmp nat_cmp (drop 4 a) (drop 4 b) in
+    front_first a b 4 o rest (ap (λ p. ordering_then p rest) (is_o ∙ (λ i. nat_cmp (is_m i) (is_n i))) ∙ by_four a b la lb fa fb)
+    (λ equal. sym (spelled_four a la fa) ∙ ap (to_be_bytes w32) (sym is_m ∙ ranked m n Equal (sym equal ∙ is_o) ∙ is_n) ∙ spelled_four b lb fb)
+
+spelled_eight : (xs : List ℕ) → 8 ≤ length xs → AreBytes xs → to_be_bytes w64 (from_be_bytes w64 xs) ≡ take 8 xs
+spelled_eight xs long fits =
+    let at : (k : ℕ) → k < 8 → get_or (take 8 xs) k 0 ≡ get_or xs k 0 = λ k. get_or-take 8 xs k 0 in
+    be_bytes_8 (take 8 xs) (from_be_bytes w64 xs) (length-take-le 8 xs long) (bytes_in 8 xs fits)
+    (omega (
+      arith,
+      at 0 (omega arith),
+      at 1 (omega arith),
+      at 2 (omega arith),
+      at 3 (omega arith),
+      at 4 (omega arith),
+      at 5 (omega arith),
+      at 6 (omega arith),
+      at 7 (omega arith),
+    ))
+
+pub eight_first : (a b : List ℕ) (m n : ℕ) (o : Ordering) → 8 ≤ length a → 8 ≤ length b → AreBytes a → AreBytes b
+    → m ≡ from_be_bytes w64 a → n ≡ from_be_bytes w64 b → o ≡ nat_cmp m n → OrdersFront a b 8 o
+eight_first a b m n o la lb fa fb is_m is_n is_o =
+    let rest : Ordering = slice_cmp nat_cmp (drop 8 a) (drop 8 b) in
+    front_first a b 8 o rest (ap (λ p. ordering_then p rest) (is_o ∙ (λ i. nat_cmp (is_m i) (is_n i))) ∙ by_eight a b la lb fa fb)
+    (λ equal. sym (spelled_eight a la fa) ∙ ap (to_be_bytes w64) (sym is_m ∙ ranked m n Equal (sym equal ∙ is_o) ∙ is_n) ∙ spelled_eight b lb fb)
