@@ -191,7 +191,7 @@ impl<'a, K: HashBytes, V: ZvKind, C: ZvContainer<K>, D: ZvContainer<V>> HashMapO
         self.values.zvl_get(slot)
     }
 
-    /// The value of a key, with a counter that nobody reads.
+    /// The value of a key, uncounted.
     #[inline]
     fn get_from<Q: HashArg<K> + ZvOrdArg<K>, L: Ledger>(
         &self,

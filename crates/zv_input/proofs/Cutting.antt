@@ -52,7 +52,8 @@ pub word_and : (text : List ℕ) (len : ℕ) → len < length text → get_or te
 word_and text len within space lacks = split_around 32 text len lacks (cut_around 32 text len within (ap (is_byte 32) space))
 
 -- no byte of a word of three is a space
-pub lacks_three : (text : List ℕ) → 3 ≤ length text → (get_or text 0 0 ≡ 32 → ⊥) → (get_or text 1 0 ≡ 32 → ⊥) → (get_or text 2 0 ≡ 32 → ⊥) → Lacks 32 (take 3 text)
+pub lacks_three : (text : List ℕ) → 3 ≤ length text → (get_or text 0 0 ≡ 32 → ⊥) → (get_or text 1 0 ≡ 32 → ⊥) → (get_or text 2 0 ≡ 32 → ⊥)
+    → Lacks 32 (take 3 text)
 lacks_three text some a b c = lacks_before 32 text 3 (λ k low lt is. grind (arith, eqb-true (get_or text k 0) 32 is))
 
 -- what a reading of fields by their digits gives at the first word of a text

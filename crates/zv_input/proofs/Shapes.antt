@@ -1,6 +1,6 @@
 -- Commands whose fields stand at the front of bytes.
-use Rattle.zv_input.proofs.Common.{◌≡◌, ◌∙◌, ℕ, ◌+◌, ◌-◌, ◌≤◌, List, [], ◌∷◌, ◌++◌, length, take, drop, refl, sym, ap, arith, IfSome, Some, None, Option, length-take}
-use Rattle.zv_input.proofs.Common.{OfTexts, all_puts, command_of_words, command_size, sizes_of, sum_by-cons, sum_by_push, total_of}
+use Rattle.zv_input.proofs.Common.{◌≡◌, ◌∙◌, ℕ, ◌+◌, ◌-◌, ◌≤◌, List, [], ◌∷◌, ◌++◌, length, take, drop, refl, sym, ap, arith, IfSome, Some, None, Option}
+use Rattle.zv_input.proofs.Common.{length-take, OfTexts, all_puts, command_of_words, command_size, sizes_of, sum_by-cons, sum_by_push, total_of}
 use Rattle.zv_input.proofs.Common.{total_size, words}
 use Rattle.std.proofs.Math.Seq.{take-append_seam}
 use Rattle.std.proofs.lemmas.List.{drop-drop, drop-take, length-drop, take-take}

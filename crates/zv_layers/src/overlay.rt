@@ -136,7 +136,7 @@ pub fn overlay_counted<'m, L: Ledger>(
     columns.build(alloc)
 }
 
-// The same with a counter that nobody reads.
+// The same, uncounted.
 fn overlay_from<'m, L: Ledger>(
     alloc: Global,
     base: &'m ImageMap<'_>,

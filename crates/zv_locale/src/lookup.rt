@@ -103,7 +103,7 @@ struct Sought<'k, 'l> {
     wanted: Wanted<'l>,
 }
 
-// The same, with a counter that nobody reads.
+// The same, uncounted.
 fn provide_from<'l, L: Ledger>(
     map: &'l ImageMap<'_>,
     sought: Sought<'_, 'l>,

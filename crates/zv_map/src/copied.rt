@@ -1,4 +1,4 @@
-// The pairs of two views, with values of one width read into hand.
+// The pairs of two views, with values of one width copied out.
 ghost use Rattle.std.specs.Prelude.{◌≡◌, length, map, IfSome, Some};
 ghost use Rattle.std.specs.Iterator.{UpTo, YieldsFirst, YieldsFirstBy, YieldsLast, YieldsLastBy};
 ghost use Rattle.std.specs.Iterator.{item_count};
@@ -9,7 +9,7 @@ use zv_ule::{AsULE, VarRef, ZvKind};
 
 // ---- keys and values
 
-/// The pairs that are left to come, keys and values read into hand.
+/// The pairs that are left to come, keys and values copied out.
 #[derive(Drop)]
 pub struct ZeroMapCopied<'l, K: AsULE, V: AsULE> {
     pairs: ZeroMapIter<'l, K, V>,
@@ -18,7 +18,7 @@ pub struct ZeroMapCopied<'l, K: AsULE, V: AsULE> {
 impl<'l, K: AsULE, V: AsULE> ZeroMapIter<'l, K, V> {
     ghost use Rattle.zv_map.specs.Iters.{copied_left, left_of};
 
-    /// The same pairs, keys and values read into hand.
+    /// The same pairs, keys and values copied out.
     #[inline]
     pub fn copied(self) -> ZeroMapCopied<'l, K, V>
         ensures { copied_left (λ b. K.loaded (K.ULE.value b)) (λ b. V.loaded (V.ULE.value b)) result
@@ -83,7 +83,7 @@ impl<K: AsULE, V: AsULE> ExactSizeIterator for ZeroMapCopied<'_, K, V> {
 
 // ---- values alone
 
-/// The pairs that are left to come, each key where it lies and its value read into hand.
+/// The pairs that are left to come, each key where it lies and its value copied out.
 #[derive(Drop)]
 pub struct ZeroMapCopiedValues<'l, K: ZvKind, V: AsULE> {
     pairs: ZeroMapIter<'l, K, V>,
@@ -92,7 +92,7 @@ pub struct ZeroMapCopiedValues<'l, K: ZvKind, V: AsULE> {
 impl<'l, K: ZvKind, V: AsULE> ZeroMapIter<'l, K, V> {
     ghost use Rattle.zv_map.specs.Iters.{copied_values_left, left_of};
 
-    /// The same pairs, the values read into hand.
+    /// The same pairs, the values copied out.
     #[inline]
     pub fn copied_values(self) -> ZeroMapCopiedValues<'l, K, V>
         ensures { copied_values_left (λ b. V.loaded (V.ULE.value b)) result

@@ -6,6 +6,7 @@ ghost use Rattle.zv_ule.specs.Views.{element_of};
 ghost use Rattle.zv_map.specs.Keys.{ascends};
 
 use crate::vecs::ZeroVecLike;
+use crate::view::Layout;
 use std::cmp::Ordering;
 use std::marker::PhantomData;
 use std::ops::Range;
@@ -14,7 +15,8 @@ use zv_ule::search::{
     IndexedList, compare_with_element, is_ascending_between, search, search_in_range,
     search_in_range_counted,
 };
-use zv_ule::{Steps, VarRef, ZvKind, ZvOrd, ZvOrdArg};
+use zv_ule::{Index16, Index32, Steps, VarRef, ZvKind, ZvOrd, ZvOrdArg};
+use zv_var::slice::VarZeroSlice;
 
 /// A container as a list that is read by place.
 #[derive(Drop)]
@@ -92,7 +94,18 @@ pub trait ZeroVecSearch<T: ZvOrd>: ZeroVecLike<T> {
         ensures found { IfSome result
             (FoundIn (compared T.cmp (Self.list self.now) (Q.bytes k.now)) range) }
     {
-        search_in_range(&Indexed::new(self), k, range)
+        let view = self.zvl_as_borrowed();
+        match view.layout() {
+            Layout::Fixed(_) => search_in_range(&Indexed::new(self), k, range),
+            Layout::Index16 => {
+                let list = VarZeroSlice::<T, Index16>::of_valid(view.bytes());
+                search_in_range(&list.components(), k, range)
+            }
+            Layout::Index32 => {
+                let list = VarZeroSlice::<T, Index32>::of_valid(view.bytes());
+                search_in_range(&list.components(), k, range)
+            }
+        }
     }
 
     /// Searches the whole list.
@@ -100,7 +113,18 @@ pub trait ZeroVecSearch<T: ZvOrd>: ZeroVecLike<T> {
         requires below { length (Q.bytes k.now) < 2 ^ 64 }
         ensures { Found (compared T.cmp (Self.list self.now) (Q.bytes k.now)) result }
     {
-        search(&Indexed::new(self), k)
+        let view = self.zvl_as_borrowed();
+        match view.layout() {
+            Layout::Fixed(_) => search(&Indexed::new(self), k),
+            Layout::Index16 => {
+                let list = VarZeroSlice::<T, Index16>::of_valid(view.bytes());
+                search(&list.components(), k)
+            }
+            Layout::Index32 => {
+                let list = VarZeroSlice::<T, Index32>::of_valid(view.bytes());
+                search(&list.components(), k)
+            }
+        }
     }
 
     /// Whether the list ascends: each element is below its next.

@@ -14,13 +14,11 @@ ghost use Rattle.zv_map.specs.declared.view.Layout.TheVariants.{Index16 as Layou
 ghost use Rattle.zv_map.specs.declared.view.Layout.TheVariants.{Index32 as LayoutIndex32};
 
 use crate::error::{MapError, TooLarge};
-use crate::search::Indexed;
 use crate::vecs::{MutableZeroVecLike, ZeroVecLike, ZvContainer};
 use crate::view::{KvSlice, Layout, RawView};
 use std::alloc::Global;
 use zv_owned::vector::VarZeroVec;
 use zv_owned::{VarZeroVecOwned, VecError};
-use zv_ule::search::IndexedList;
 use zv_ule::{
     Index16, Index32, NoMemory, UleError, VarBox, VarRef, VarZeroVecFormat, ZvArg, ZvKind,
 };
@@ -166,7 +164,7 @@ impl<'a, T: ZvKind, F: MapFormat> ZvContainer<T> for VarZeroVec<'a, T, F> {
 
     #[inline]
     fn zvl_get_owned(&self, alloc: Global, index: usize) -> Result<VarBox<T>, NoMemory> {
-        Indexed::new(self).element_at(index).to_boxed(alloc)
+        self.zvl_as_borrowed().at(index).to_boxed(alloc)
     }
 
     #[inline]

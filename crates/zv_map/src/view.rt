@@ -8,6 +8,7 @@ ghost use Rattle.std.specs.Option.{option_map};
 ghost use Rattle.zv_ule.specs.Chunks.{chunks_of, first_fault};
 ghost use Rattle.zv_ule.specs.Fixed.{is_width};
 ghost use Rattle.zv_ule.specs.Views.{element_of};
+ghost use Rattle.zv_var.specs.Views.{list_of as elements_in};
 ghost use Rattle.zv_map.specs.Layouts.{list_in, spells_in, encoding_in};
 ghost use Rattle.zv_map.specs.Keys.{nth};
 
@@ -136,6 +137,21 @@ fn chunk_element<T: ZvKind>(bytes: &[u8], width: usize, index: usize) -> Option<
     }
 }
 
+/// The element at a place of a list of elements of any lengths.
+#[inline]
+fn element_in<'b, T: ZvKind, F: VarZeroVecFormat>(
+    list: VarZeroSlice<'b, T, F>,
+    index: usize,
+) -> VarRef<'b, T>
+    requires { index < length (elements_in list) }
+    ensures { element_of result ≡ nth (elements_in list.entry) index }
+{
+    match list.get(index) {
+        Some(element) => element,
+        None => unreachable!(),
+    }
+}
+
 /// The bytes of a list that has an element, which are all that it is written as.
 #[inline]
 fn encoding_of<T: ZvKind>(_layout: Layout, bytes: &[u8]) -> &[u8]
@@ -233,9 +249,14 @@ impl<'b, T: ZvKind> KvSlice<'b, T> {
         requires { index < length (list_of self) }
         ensures { element_of result ≡ nth (list_of self.entry) index }
     {
-        match self.get(index) {
-            Some(element) => element,
-            None => unreachable!(),
+        match self.layout {
+            Layout::Fixed(width) => element_at(self.bytes, width, index),
+            Layout::Index16 => {
+                element_in(VarZeroSlice::<T, Index16>::of_valid(self.bytes), index)
+            }
+            Layout::Index32 => {
+                element_in(VarZeroSlice::<T, Index32>::of_valid(self.bytes), index)
+            }
         }
     }
 

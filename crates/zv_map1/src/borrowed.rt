@@ -245,7 +245,7 @@ impl<'a, K: ZvOrd, V: AsULE> ZeroMapBorrowed<'a, K, V> {
     ghost use Rattle.zv_map1.specs.Searches.{IsCopiedBy};
     ghost use Rattle.zv_map1.specs.Views.{look_up};
 
-    /// The value of the key, read into hand.
+    /// The value of the key, copied out.
     pub fn get_copied<Q: ZvOrdArg<K>>(self, key: &Q) -> Option<V>
         requires { length (Q.bytes key.now) < 2 ^ 64 }
         ensures { result ≡ option_map (λ b. V.loaded (V.ULE.value b))
@@ -255,7 +255,7 @@ impl<'a, K: ZvOrd, V: AsULE> ZeroMapBorrowed<'a, K, V> {
         Some(value.value())
     }
 
-    /// The value of a key that is found by a predicate, read into hand.
+    /// The value of a key that is found by a predicate, copied out.
     pub fn get_copied_by<P: FnMut(&[u8]) -> Ordering>(self, predicate: P) -> Option<V>
         requires { P.IsAlwaysCallable predicate }
         ensures { IsCopiedBy P.FnMut predicate (pairs_of self.entry)
@@ -265,7 +265,7 @@ impl<'a, K: ZvOrd, V: AsULE> ZeroMapBorrowed<'a, K, V> {
         Some(value.value())
     }
 
-    /// The pairs in order, the values read into hand.
+    /// The pairs in order, the values copied out.
     #[inline]
     pub fn iter_copied_values(self) -> ZeroMapCopiedValues<'a, K, V>
         ensures { copied_values_left (λ b. V.loaded (V.ULE.value b)) result
@@ -279,7 +279,7 @@ impl<'a, K: AsULE + ZvOrd, V: AsULE> ZeroMapBorrowed<'a, K, V> {
     ghost use Rattle.zv_map.specs.Iters.{copied_left};
     ghost use Rattle.zv_map1.specs.Borrowed.{pairs_of};
 
-    /// The pairs in order, keys and values read into hand.
+    /// The pairs in order, keys and values copied out.
     #[inline]
     pub fn iter_copied(self) -> ZeroMapCopied<'a, K, V>
         ensures { copied_left (λ b. K.loaded (K.ULE.value b)) (λ b. V.loaded (V.ULE.value b)) result

@@ -208,7 +208,7 @@ impl<K: ZvOrd, V: ZvKind, C: ZvContainer<K>, D: ZvContainer<V>> MapOver<K, V, C,
 }
 
 impl<K: ZvOrd, V: AsULE, C: ZvContainer<K>, D: ZvContainer<V>> MapOver<K, V, C, D> {
-    /// The value of the key, read into hand.
+    /// The value of the key, copied out.
     pub fn get_copied<Q: ZvOrdArg<K>>(&self, key: &Q) -> Option<V>
         requires { length (Q.bytes key.now) < 2 ^ 64 }
         ensures { result ≡ option_map (λ b. V.loaded (V.ULE.value b))
@@ -217,7 +217,7 @@ impl<K: ZvOrd, V: AsULE, C: ZvContainer<K>, D: ZvContainer<V>> MapOver<K, V, C, 
         self.as_borrowed().get_copied(key)
     }
 
-    /// The value of a key that is found by a predicate, read into hand.
+    /// The value of a key that is found by a predicate, copied out.
     pub fn get_copied_by<P: FnMut(&[u8]) -> Ordering>(&self, predicate: P) -> Option<V>
         requires { P.IsAlwaysCallable predicate }
         ensures { IsCopiedBy P.FnMut predicate self.now.pairs (λ b. V.loaded (V.ULE.value b))
@@ -226,7 +226,7 @@ impl<K: ZvOrd, V: AsULE, C: ZvContainer<K>, D: ZvContainer<V>> MapOver<K, V, C, 
         self.as_borrowed().get_copied_by(predicate)
     }
 
-    /// The pairs in order, the values read into hand.
+    /// The pairs in order, the values copied out.
     #[inline]
     pub fn iter_copied_values(&self) -> ZeroMapCopiedValues<'_, K, V>
         ensures { copied_values_left (λ b. V.loaded (V.ULE.value b)) result
@@ -237,7 +237,7 @@ impl<K: ZvOrd, V: AsULE, C: ZvContainer<K>, D: ZvContainer<V>> MapOver<K, V, C, 
 }
 
 impl<K: AsULE + ZvOrd, V: AsULE, C: ZvContainer<K>, D: ZvContainer<V>> MapOver<K, V, C, D> {
-    /// The pairs in order, keys and values read into hand.
+    /// The pairs in order, keys and values copied out.
     #[inline]
     pub fn iter_copied(&self) -> ZeroMapCopied<'_, K, V>
         ensures { copied_left (λ b. K.loaded (K.ULE.value b)) (λ b. V.loaded (V.ULE.value b)) result

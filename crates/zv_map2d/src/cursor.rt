@@ -18,7 +18,7 @@ use zv_ule::{AsULE, Steps, VarRef, ZvKind, ZvOrd, ZvOrdArg};
 /// The pairs of a row, in order: each a second key and its value.
 pub type Iter1<'l, K1, V> = ZeroMapIter<'l, K1, V>;
 
-/// The pairs of a row, in order, their values read into hand.
+/// The pairs of a row, in order, their values copied out.
 pub type Iter1Copied<'l, K1, V> = ZeroMapCopiedValues<'l, K1, V>;
 
 /// One row of a map: a first key, and its pairs of a second key and a value in order. It is a place
@@ -141,7 +141,7 @@ impl<'l, 'a, K0: ZvOrd, K1: ZvOrd, V: ZvKind> ZeroMap2dCursor<'l, 'a, K0, K1, V>
 impl<'l, 'a, K0: ZvOrd, K1: ZvOrd, V: AsULE> ZeroMap2dCursor<'l, 'a, K0, K1, V> {
     ghost use Rattle.zv_map.specs.Iters.{copied_values_left};
 
-    /// The row's pairs, in order, their values read into hand.
+    /// The row's pairs, in order, their values copied out.
     pub fn iter1_copied(&self) -> Iter1Copied<'l, K1, V>
         ensures { copied_values_left (λ b. V.loaded (V.ULE.value b)) result
             ≡ map (λ p. (p.0, V.loaded (V.ULE.value p.1))) self.now.pairs }
@@ -149,7 +149,7 @@ impl<'l, 'a, K0: ZvOrd, K1: ZvOrd, V: AsULE> ZeroMap2dCursor<'l, 'a, K0, K1, V> 
         self.iter1().copied_values()
     }
 
-    /// The row's pairs, in order, their values read into hand.
+    /// The row's pairs, in order, their values copied out.
     pub fn into_iter1_copied(self) -> Iter1Copied<'l, K1, V>
         ensures { copied_values_left (λ b. V.loaded (V.ULE.value b)) result
             ≡ map (λ p. (p.0, V.loaded (V.ULE.value p.1))) self.entry.pairs }
@@ -157,7 +157,7 @@ impl<'l, 'a, K0: ZvOrd, K1: ZvOrd, V: AsULE> ZeroMap2dCursor<'l, 'a, K0, K1, V> 
         self.iter1_copied()
     }
 
-    /// The value of the row's pair with a second key, as a value in hand.
+    /// The value of the row's pair with a second key, copied out.
     pub fn get1_copied<Q1: ZvOrdArg<K1>>(&self, key1: &Q1) -> Option<V>
         requires { length (Q1.bytes key1.now) < 2 ^ 64 }
         ensures value { result ≡ option_map (λ b. V.loaded (V.ULE.value b))
@@ -170,7 +170,7 @@ impl<'l, 'a, K0: ZvOrd, K1: ZvOrd, V: AsULE> ZeroMap2dCursor<'l, 'a, K0, K1, V> 
     }
 
     /// The value of a pair of the row at whose second key the predicate answers `Equal`, as
-    /// [`get1_by`](Self::get1_by) finds it, as a value in hand.
+    /// [`get1_by`](Self::get1_by) finds it, copied out.
     pub fn get1_copied_by<P: FnMut(&[u8]) -> Ordering>(&self, predicate: P) -> Option<V>
         requires { P.IsAlwaysCallable predicate }
         ensures equal { IfSome result

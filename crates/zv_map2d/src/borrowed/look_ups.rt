@@ -173,7 +173,7 @@ impl<'a, K0: ZvOrd, K1: ZvOrd, V: ZvKind> ZeroMap2dBorrowed<'a, K0, K1, V> {
 
     /// The row at the place where a search for its first key ended, if there is one.
     #[inline(always)]
-    fn row_there<'l, Q0: ZvOrdArg<K0>>(
+    pub(crate) fn row_there<'l, Q0: ZvOrdArg<K0>>(
         &self,
         place: Result<usize, usize>,
         _key0: &Q0,
@@ -357,7 +357,7 @@ impl<'a, K0: ZvOrd, K1: ZvOrd, V: ZvKind> ZeroMap2dBorrowed<'a, K0, K1, V> {
 impl<'a, K0: ZvOrd, K1: ZvOrd, V: AsULE> ZeroMap2dBorrowed<'a, K0, K1, V> {
     ghost use Rattle.zv_map2d.specs.Borrowed.{rows_in};
 
-    /// The value of the pair of keys, if there is one, as a value in hand.
+    /// The value of the pair of keys, if there is one, copied out.
     pub fn get_copied_2d<Q0: ZvOrdArg<K0>, Q1: ZvOrdArg<K1>>(
         &self,
         key0: &Q0,

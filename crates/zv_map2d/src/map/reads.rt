@@ -20,7 +20,7 @@ use crate::map::Map2dOver;
 use crate::rows::ZeroMap2dIter0;
 use std::cmp::Ordering;
 use std::sync::ledger::Ledger;
-use zv_map::ZvContainer;
+use zv_map::{ZeroVecSearch, ZvContainer};
 use zv_ule::{AsULE, Steps, VarRef, ZvKind, ZvOrd, ZvOrdArg};
 
 impl<
@@ -85,6 +85,7 @@ impl<
     }
 
     /// The row of a first key, if there is one. It is one search.
+    #[inline(always)]
     pub fn get0<'l, Q0: ZvOrdArg<K0>>(
         &'l self,
         key0: &Q0,
@@ -97,7 +98,8 @@ impl<
         ensures key { IfSome result (λ c. K0.cmp c.key (Q0.bytes key0.now) ≡ Equal) }
         ensures seen { IfSome result (λ c. c ≡ row_seen self.now.rows c.place) }
     {
-        self.as_borrowed().get0(key0)
+        let place = self.keys0.zvl_binary_search(key0);
+        self.as_borrowed().row_there(place, key0)
     }
 
     /// The row of a first key, if there is one, with each comparison counted as a step: at most as
@@ -172,7 +174,7 @@ impl<
     C1: ZvContainer<K1>,
     D: ZvContainer<V>,
 > Map2dOver<'a, K0, K1, V, C0, C1, D> {
-    /// The value of the pair of keys, if there is one, as a value in hand.
+    /// The value of the pair of keys, if there is one, copied out.
     pub fn get_copied_2d<Q0: ZvOrdArg<K0>, Q1: ZvOrdArg<K1>>(
         &self,
         key0: &Q0,
