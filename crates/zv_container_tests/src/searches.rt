@@ -1,12 +1,16 @@
 // Searches in containers: what they answer in a range, and how often they compare, counted by the
 // key itself.
+ghost use Rattle.std.specs.Prelude.{◌≡◌, ◌<◌};
+
 use std::cell::Cell;
 use std::cmp::Ordering;
+use std::marker::Brand;
 use std::process::Abort;
+use std::sync::ledger::{Blank, Ledger};
 use std::test::Fail;
 use zv_counting::CountingKey;
 use zv_map::{MutableZeroVecLike, ZeroMapKV, ZeroVecSearch, ZeroVecSearchBy};
-use zv_ule::StrULE;
+use zv_ule::{Steps, StrULE};
 
 type Of<'a, K> = <K as ZeroMapKV<'a>>::Container;
 
@@ -96,11 +100,33 @@ fn comparisons<C: ZeroVecSearch<StrULE>>(list: &C, text: &str) -> usize {
     count.get()
 }
 
+// Searches for a key with the steps counted.
+fn search_counted<C: ZeroVecSearch<StrULE>, L: Ledger>(
+    list: &C,
+    key: &CountingKey<'_>,
+    blank: Blank,
+) -> Option<Result<usize, usize>>
+    requires name { blank.name ≡ L.name }
+    requires parts { blank.parts ≡ L.parts }
+    requires some { 0 < blank.parts }
+{
+    list.zvl_search_counted(key, 0..list.zvl_len(), &mut Steps::<L>::start(blank))
+}
+
+// How many comparisons a counted search for the text makes, which ends as the plain one does.
+fn counted_comparisons<C: ZeroVecSearch<StrULE>>(rt: &impl Abort, list: &C, text: &str) -> usize {
+    let count = Cell::new(0);
+    let found = search_counted::<C, Brand>(list, &CountingKey::new(text, &count), Blank::new(1));
+    assert!(rt; found == Some(list.zvl_binary_search(&text)));
+    count.get()
+}
+
 // A search among seven texts compares at least once, and at most three times.
 fn compares_up_to_three_times<C: ZeroVecSearch<StrULE>>(rt: &impl Abort, list: &C) {
     for text in ["a", "b", "c", "d", "e", "f", "g", "aa", "h"] {
         let count = comparisons(list, text);
         assert!(rt; (1..=3).contains(&count));
+        assert!(rt; (1..=3).contains(&counted_comparisons(rt, list, text)));
     }
 }
 

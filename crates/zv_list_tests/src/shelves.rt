@@ -31,6 +31,7 @@ fn one_to_four<L: Ledger>(
     assert!(rt; 4 <= spare);
     shelf.take_in(&[4], steps)?;
     assert!(rt; shelf.spare().checked_add(1) == Some(spare));
+    assert!(rt; shelf.capacity() == spare.saturating_add(3));
     Ok(shelf)
 }
 

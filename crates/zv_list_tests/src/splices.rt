@@ -49,7 +49,7 @@ fn make_from<F: VarZeroVecFormat, L: Ledger>(
     }
 }
 
-// Makes a change, with a counter that nobody reads.
+// Makes a change, uncounted.
 fn make<F: VarZeroVecFormat>(
     rt: &impl Abort,
     list: &mut VarZeroVecOwned<StrULE, F>,

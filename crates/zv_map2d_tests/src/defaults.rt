@@ -1,7 +1,7 @@
 // The maps that `Default` gives.
 use std::process::Abort;
 use zv_map::{MutableZeroVecLike, ZeroMapKV};
-use zv_map2d::{Map2dOver, ZeroMap2dBorrowed};
+use zv_map2d::{ImageMap, Map2dOver, ZeroMap2dBorrowed};
 use zv_ule::StrULE;
 
 type Of<'a, K> = <K as ZeroMapKV<'a>>::Container;
@@ -19,5 +19,6 @@ where
 
 #[test]
 fn default_maps_are_empty(rt: HostRuntime) {
+    assert!(rt; ImageMap::default().is_empty());
     are_empty::<Of<'_, StrULE>, Of<'_, u16>, Of<'_, StrULE>>(&rt);
 }

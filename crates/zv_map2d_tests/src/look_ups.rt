@@ -7,7 +7,7 @@ use std::process::Abort;
 use std::sync::ledger::{Blank, Ledger};
 use std::test::Fail;
 use zv_counting::CountingKey;
-use zv_map::{MutableZeroVecLike, ZeroMapKV, ZvContainer};
+use zv_map::{MutableZeroVecLike, ZeroMapKV, ZeroVecSearch, ZvContainer};
 use zv_map2d::{Map2dOver, ZeroMap2d};
 use zv_ule::{SliceULE, Steps, StrULE};
 
@@ -193,9 +193,25 @@ fn find_in_row<L: Ledger>(
     }
 }
 
+// Searches the first keys with the steps counted, and says whether the key is one.
+fn find_first<L: Ledger>(map: &Stored<'_>, key0: &CountingKey<'_>, blank: Blank) -> bool
+    requires name { blank.name ≡ L.name }
+    requires parts { blank.parts ≡ L.parts }
+    requires some { 0 < blank.parts }
+{
+    let mut steps = Steps::<L>::start(blank);
+    let place = map
+        .keys0()
+        .zvl_search_counted(key0, 0..map.rows(), &mut steps);
+    matches!(place, Some(Ok(_)))
+}
+
 // How many comparisons the counted look-ups make of a pair that is there.
 fn counted(rt: &impl Abort, map: &Stored<'_>, language: &str, script: &str) -> Comparisons {
     let (in_map, of_row, in_row) = (Cell::new(0), Cell::new(0), Cell::new(0));
+    let first = Cell::new(0);
+    assert!(rt; find_first::<Brand>(map, &CountingKey::new(language, &first), Blank::new(1)));
+    assert!(rt; is_between(first.get(), 5));
     let key0 = CountingKey::new(language, &in_map);
     let key1 = CountingKey::new(script, &in_map);
     assert!(rt; find_pair::<Brand>(map, &key0, &key1, Blank::new(1)));

@@ -8,7 +8,7 @@ use zv_ule::StrULE;
 
 type Of<'a, K> = <K as ZeroMapKV<'a>>::Container;
 
-// ---- numbers, which are read into hand
+// ---- numbers, which are copied out
 
 // The rows of 1, which is 2 to 20 and 3 to 30, of 4, which is 2 to 24, and of 9, which is 5 to 45.
 type Numbers<'a, C0, C1, D> = Map2dOver<'a, u16, u16, u32, C0, C1, D>;

@@ -9,8 +9,25 @@ ghost use Rattle.zv_worked.specs.Lengths.{CountOfNone, CountOfOne, LargestOfTwoB
 ghost use Rattle.zv_worked.specs.Lengths.{LargestWithCount, MostIsRefused, NoneHaveNoLength};
 ghost use Rattle.zv_worked.specs.Lengths.{OneBelowMost, StartsCount, StartsFill};
 ghost use Rattle.zv_worked.specs.Lengths.{TooLargeOfTwoBytes, TooLargeWithCount, UnfitIsRefused};
+ghost use Rattle.zv_worked.specs.Puts.{FullIsNotDone, FullIsNotTooLarge, FullIsTooMany};
+ghost use Rattle.zv_worked.specs.Puts.{FullWantsNoMemory, PutIsDone, PutIsNotTooLarge};
+ghost use Rattle.zv_worked.specs.Puts.{PutIsNotTooMany, PutMayWantMemory, UnfitPutIsNotDone};
+ghost use Rattle.zv_worked.specs.Puts.{UnfitPutIsNotTooMany, UnfitPutIsTooLarge};
+ghost use Rattle.zv_worked.specs.Puts.{UnfitPutWantsNoMemory};
 ghost use Rattle.zv_worked.specs.Refusals.{FitsIsDone, FitsIsNotTooLarge, FitsMayWantMemory};
 ghost use Rattle.zv_worked.specs.Refusals.{UnfitIsNotDone, UnfitIsTooLarge, UnfitWantsNoMemory};
+ghost use Rattle.zv_worked.specs.NoPlacements.{AlikeHaveNoPlace, DifferentAreNotRepeated};
+ghost use Rattle.zv_worked.specs.NoPlacements.{DifferentHavePlaces, EqualHaveNoPlace};
+ghost use Rattle.zv_worked.specs.NoPlacements.{FitTableIsNotTooLarge, HashesAreNotRepeated};
+ghost use Rattle.zv_worked.specs.NoPlacements.{HashesAreNotTooLarge, LaterIsNotFirst, LaterIsNotNamed};
+ghost use Rattle.zv_worked.specs.NoPlacements.{ManyAreTooMany, ManyBeforeRepeated, ManyBeforeStuck};
+ghost use Rattle.zv_worked.specs.NoPlacements.{ManyBeforeTooLarge, ManyPairsAreTooMany};
+ghost use Rattle.zv_worked.specs.NoPlacements.{ManyPairsBeforeStuck, ManyWantNoMemory};
+ghost use Rattle.zv_worked.specs.NoPlacements.{MostAreNotTooMany, MostMayWantMemory};
+ghost use Rattle.zv_worked.specs.NoPlacements.{MostPairsAreNotTooMany, MostPairsMayBeTooLarge};
+ghost use Rattle.zv_worked.specs.NoPlacements.{OneHasPlace, OtherBucketIsNotStuck, RepeatedBeforeStuck};
+ghost use Rattle.zv_worked.specs.NoPlacements.{TableMayWantMemory, TwiceIsRepeated, UnfitBeforeStuck};
+ghost use Rattle.zv_worked.specs.NoPlacements.{UnfitTableIsNotRepeated, UnfitTableIsTooLarge};
 
 /// What a container answers where its size rule takes an element and where it does not. It does
 /// nothing.
@@ -51,3 +68,61 @@ pub fn faults_by_hand()
     ensures not_the_highest { NotTheHighest }
     ensures highest_stays { HighestStays }
 {}
+
+/// What a map in two levels answers to a put, by whether its size rule takes it and whether the map
+/// is full. It does nothing.
+pub fn puts_by_hand()
+    ensures done { PutIsDone }
+    ensures wants_memory { PutMayWantMemory }
+    ensures not_too_large { PutIsNotTooLarge }
+    ensures not_too_many { PutIsNotTooMany }
+    ensures too_large { UnfitPutIsTooLarge }
+    ensures unfit_not_too_many { UnfitPutIsNotTooMany }
+    ensures unfit_not_done { UnfitPutIsNotDone }
+    ensures unfit_wants_no_memory { UnfitPutWantsNoMemory }
+    ensures too_many { FullIsTooMany }
+    ensures full_not_too_large { FullIsNotTooLarge }
+    ensures full_not_done { FullIsNotDone }
+    ensures full_wants_no_memory { FullWantsNoMemory }
+{}
+
+/// Why hashes have no placement, and why not. It does nothing.
+pub fn no_placements_by_hand()
+    ensures equal { EqualHaveNoPlace }
+    ensures other_bucket { OtherBucketIsNotStuck }
+    ensures one { OneHasPlace }
+    ensures too_many { ManyAreTooMany }
+    ensures too_many_before_stuck { ManyBeforeStuck }
+    ensures too_many_want_no_memory { ManyWantNoMemory }
+    ensures most { MostAreNotTooMany }
+    ensures most_want_memory { MostMayWantMemory }
+    ensures not_too_large { HashesAreNotTooLarge }
+    ensures not_repeated { HashesAreNotRepeated }
+{
+    zv_hash::laws::worked_placements();
+    zv_hash::laws::stuck_bucket();
+}
+
+/// Why pairs have no table, and which cause is named first. It does nothing.
+pub fn no_tables_by_hand()
+    ensures repeated { TwiceIsRepeated }
+    ensures later_not_first { LaterIsNotFirst }
+    ensures later_not_named { LaterIsNotNamed }
+    ensures different { DifferentAreNotRepeated }
+    ensures too_large { UnfitTableIsTooLarge }
+    ensures too_large_before_repeated { UnfitTableIsNotRepeated }
+    ensures not_too_large { FitTableIsNotTooLarge }
+    ensures repeated_before_stuck { RepeatedBeforeStuck }
+    ensures stuck { AlikeHaveNoPlace }
+    ensures too_large_before_stuck { UnfitBeforeStuck }
+    ensures not_stuck { DifferentHavePlaces }
+    ensures too_many { ManyPairsAreTooMany }
+    ensures too_many_before_too_large { ManyBeforeTooLarge }
+    ensures too_many_before_repeated { ManyBeforeRepeated }
+    ensures too_many_before_stuck { ManyPairsBeforeStuck }
+    ensures most { MostPairsAreNotTooMany }
+    ensures most_too_large { MostPairsMayBeTooLarge }
+    ensures wants_memory { TableMayWantMemory }
+{
+    zv_hash::laws::stuck_bucket();
+}

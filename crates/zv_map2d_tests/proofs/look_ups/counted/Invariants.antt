@@ -5,3 +5,6 @@ ghosts-find_pair g a = record { name = a.blank.name; parts = a.blank.parts }
 
 abbrev pub ghosts-find_in_row : goal.ghosts-find_in_row
 ghosts-find_in_row g a = record { name = a.blank.name; parts = a.blank.parts }
+
+abbrev pub ghosts-find_first : goal.ghosts-find_first
+ghosts-find_first g a = record { name = a.blank.name; parts = a.blank.parts }
