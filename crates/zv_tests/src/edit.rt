@@ -7,6 +7,7 @@ use std::process::Abort;
 use std::test::Fail;
 use zv_tool::{
     Command, Commands, CommandsError, EditError, KeyText, MemSink, NoMemory, ValueBytes, edit2d,
+    look2d,
 };
 
 // The command that gives "a" and "b" a value.
@@ -51,6 +52,26 @@ fn an_edit_by_its_calls(rt: HostRuntime) -> Result<(), Fail> {
     let answer = join(alloc, &["new\nimage x", PAIR, "\n"])?;
     try_edit(&rt, alloc, &[], Ok(()), &answer)?;
     try_edit(&rt, alloc, &[0], Err(EditError::Write), b"new")
+}
+
+// The image of "a" in "b", which has 1.
+const ONE_PAIR: &[u8] = b"\
+    \x03\0\0\0\0\0\0\0\x01\0a\
+    \x04\0\0\0\0\0\0\0\x01\0\0\0\
+    \x03\0\0\0\0\0\0\0\x01\0b\
+    \x03\0\0\0\0\0\0\0\x01\0\x01";
+
+// What "a" has in an image for a second key, or why it has nothing.
+fn looked<'a>(image: &'a [u8], key1: &str) -> Result<Option<&'a [u8]>, EditError> {
+    Ok(look2d(image, "a", key1)?.map(|value| value.as_bytes()))
+}
+
+#[test]
+fn a_look_up_by_its_call(rt: HostRuntime) {
+    assert!(rt; looked(ONE_PAIR, "b") == Ok(Some([1].as_slice())));
+    assert!(rt; looked(ONE_PAIR, "c") == Ok(None));
+    assert!(rt; looked(&[0; 32], "b") == Ok(None));
+    assert!(rt; looked(&[0; 31], "b") == Err(EditError::Frame));
 }
 
 // 1 for the command, and fields of 1, 1 and 16,777,213 bytes, are all that a list takes.
