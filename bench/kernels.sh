@@ -9,7 +9,7 @@
 # 10,000 texts.
 #
 # First it times the program `zv`, where it is built. The timing programs (ranges.txt, records.txt, lists.txt, tables.txt,
-# changes.txt, timing.txt, hashes.txt, frames.txt, json_forms.txt) are Rattle crates that are no part of the gate. They are proved
+# changes.txt, timing.txt, hashes.txt, freezes.txt, frames.txt, json_forms.txt) are Rattle crates that are no part of the gate. They are proved
 # and built in bench/out, a copy of the sources with the libraries that the tree has built (`.ci/run`, `./zv --prove` and `rt lib`
 # leave them), and stay there: what didn't change is not built again. Each is run as soon as it is built.
 set -euo pipefail

@@ -5,8 +5,10 @@ A block that follows the line `<!-- from PATH -->` is a quote of that file. Each
 lines between blank lines, or between lines `...`) must stand in the file, line for line and in order.
 A block of Rattle (```rust, ```antt) without such a line is an error.
 
-Each call and clause in the tables of docs/CONTRACTS.md must stand in the crate of its section, and each in the
-README's table of clauses in the file that the row links to. The status is 1 where something differs.
+Each call and clause in the tables of docs/CONTRACTS.md must stand in the crate of its section, each in the README's table
+of clauses in the file that the row links to, each definition of docs/DEFINITIONS.md in the files of specs/ that its row
+names, and each law of docs/CALLING.md in the files of proofs/ and as a function of the crate. The status is 1 where
+something differs.
 """
 import pathlib
 import re
@@ -95,10 +97,49 @@ def wrong_guarantees():
             yield from wrong_names(where, (TOP / link[2]).read_text(), CODE.findall(link[1]), clauses)
 
 
+def named_files(section, cell):
+    """The crate and the name of each file that a cell names: `zv_fixed, Vectors; zv_owned, Owned` or `Fits, Laws`."""
+    crate = re.search(r"zv_\w+", section)[0]
+    for word in re.findall(r"\w+", re.sub(r"`[^`]*`|\bof\b|\band\b", " ", cell)):
+        if word.startswith("zv_"):
+            crate = word
+        else:
+            yield crate, word
+
+
+def wrong_definitions():
+    for section, cells, where in rows("docs/DEFINITIONS.md"):
+        if cells[0] == "definition":
+            continue
+        paths = [TOP / f"crates/{crate}/specs/{name}.antt" for crate, name in named_files(section, cells[1])]
+        yield from (f"{where}: there is no {path.relative_to(TOP)}" for path in paths if not path.is_file())
+        # A definition may also be one of the crate's code, as `Row` of a map is a record of specs/.
+        text = "\n".join(path.read_text() for path in paths if path.is_file())
+        for word in CODE.findall(cells[0]):
+            if not re.search(rf"\bpub (?:record |data )?{re.escape(word.split()[0])}\b", text):
+                yield f"{where}: no definition {word.split()[0]} in {cells[1]}"
+
+
+def wrong_laws():
+    for section, cells, where in rows("docs/CALLING.md"):
+        if section != "## Laws to cite" or cells[0] == "law":
+            continue
+        crate = re.match(r"zv_\w+", cells[1])
+        if crate is None:
+            continue
+        for owner, name in named_files(cells[1], cells[1]):
+            if not any((TOP / f"crates/{owner}/{folder}/{name}.antt").is_file() for folder in ("proofs", "specs")):
+                yield f"{where}: {owner} has no {name}"
+        text = "\n".join(it.read_text() for it in sorted(TOP.glob(f"crates/{crate[0]}/src/**/*.rt")))
+        for call in CODE.findall(cells[2]):
+            if not re.search(rf"\bfn {call.split('::')[-1]}\b", text):
+                yield f"{where}: there is no {call}"
+
+
 def main():
     pages = [TOP / "README.md", *sorted(TOP.glob("docs/*.md"))]
     found = [fault for page in pages for fault in wrong_quotes(page)]
-    found += [*wrong_contracts(), *wrong_guarantees()]
+    found += [*wrong_contracts(), *wrong_guarantees(), *wrong_definitions(), *wrong_laws()]
     print(*found, sep="\n", end="\n" if found else "")
     return 1 if found else 0
 

@@ -9,7 +9,8 @@
 
 A line of a table is a first key, a second key and a value, with a tab between them. Keys and values
 are texts in UTF-8 here; `zv` takes any bytes as a value. docs/FORMATS.md describes the image.
-Given the input that the output answers, `show` begins with each pair that was looked up, found or not.
+Given the input that the output answers, `show` begins with each pair that was looked up, found or not, and each pair whose
+value was `toolarge`.
 
     examples/table.py put examples/regions.tsv | examples/table.py get sd Khoj > input
     ./zv edit < input | examples/table.py show input
@@ -38,7 +39,7 @@ def text(data):
 
 def lines_of(path):
     """The lines of a file, or of standard input."""
-    with open(path, "rb") if path else sys.stdin.buffer as file:
+    with open(path or 0, "rb") as file:
         *lines, last = text(file.read()).split("\n")
         return [*lines, last] if last else lines
 
@@ -99,12 +100,12 @@ def triples(image):
 
 
 def answered(commands, replies):
-    """What was looked up, and found or not."""
+    """What was looked up, and found or not; and what was too large."""
     if len(commands) != len(replies):
         raise ValueError(f"{len(commands)} commands and {len(replies)} replies")
     for command, reply in zip(commands, replies):
         (name, *fields), (kind, *values) = command.split(" "), reply.split(" ")
-        if name in ("get", "ask"):
+        if name in ("get", "ask") or kind == "toolarge":
             yield "\t".join(("# " + kind, *map(text, fields[:2] + values)))
 
 
