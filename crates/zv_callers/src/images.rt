@@ -1,7 +1,9 @@
 // A table that is stored as an image: read in the image's bytes, changed in room that is made once,
 // and written as the parts of another image.
-ghost use Rattle.std.specs.Prelude.{◌≡◌, ◌+◌, IfErr, IfOk, OnErr, OnOk, length};
+ghost use Rattle.std.specs.Prelude.{◌≡◌, ◌+◌, [], IfErr, IfOk, OnErr, OnOk, length};
 ghost use Rattle.std.specs.Result.{result_err};
+ghost use Rattle.zv_devices.specs.Devices.{Takes};
+ghost use Rattle.zv_edit.specs.Answers.{answers};
 ghost use Rattle.zv_map.specs.Flexes.{flex_settled};
 ghost use Rattle.zv_map2d.specs.Image.{Stands, by_bytes, fault, spelling_in, wides_of};
 ghost use Rattle.zv_map2d.specs.Room.{HasRoomFor, IsOwned, IsReady, SpendsFor};
@@ -10,7 +12,11 @@ ghost use Rattle.zv_map2d.specs.Views.{AreSettled, bytes_of};
 ghost use Rattle.zv_callers.specs.Images.{changed, with_entry, without};
 
 use std::alloc::Global;
+use zv_devices::{Failed, Sink};
+use zv_edit::serve;
+use zv_input::Commands;
 use zv_map::FlexULE;
+use zv_map2d::laws::room;
 use zv_map2d::{EditError, ImageMap, Map2dError, Parts, parse_image};
 use zv_ule::VarRef;
 
@@ -57,7 +63,6 @@ fn reserve_for_two(
 ///
 /// # Errors
 /// `TooLarge` where the value does not fit. The table is unchanged then.
-#[tactic(auto, using(zv_map2d::proofs::Rooms::owned_after, zv_map2d::proofs::Rooms::ready_after))]
 pub fn put_entry(table: &mut StoredTable<'_>, item: Entry<'_>) -> Result<(), Map2dError>
     requires room { HasRoomFor 4 4 4 (length item.keys.language.now)
         (length item.keys.script.now) (length item.value.now) 1 table.old }
@@ -69,6 +74,7 @@ pub fn put_entry(table: &mut StoredTable<'_>, item: Entry<'_>) -> Result<(), Map
     ensures owned { IsOwned table.new }
     ensures ready { IsReady table.new }
 {
+    room();
     let value = FlexULE::of_plain(VarRef::of_bytes(item.value));
     match table.put_reserved(&item.keys.language, &item.keys.script, &value) {
         Ok(_) => Ok(()),
@@ -77,18 +83,18 @@ pub fn put_entry(table: &mut StoredTable<'_>, item: Entry<'_>) -> Result<(), Map
 }
 
 /// Takes a language in a script out, if it is there. It takes no memory.
-#[tactic(auto, using(zv_map2d::proofs::Rooms::owned_after, zv_map2d::proofs::Rooms::ready_after))]
 pub fn discard_keys(table: &mut StoredTable<'_>, keys: Keys<'_>)
     requires { IsOwned table.old }
     ensures rows { table.new.rows ≡ without table.old.rows keys.entry }
     ensures owned { IsOwned table.new }
     ensures ready { IsReady table.old → IsReady table.new }
+    ensures room { HasRoomFor 4 4 4 0 0 0 0 table.old → HasRoomFor 4 4 4 0 0 0 0 table.new }
 {
+    room();
     table.discard(&keys.language, &keys.script);
 }
 
 /// Puts two entries, one after the other, in room for both.
-#[tactic(auto, using(zv_map2d::proofs::Rooms::first_room, zv_map2d::proofs::Rooms::second_room))]
 fn put_both(
     table: &mut StoredTable<'_>,
     first: Entry<'_>,
@@ -102,8 +108,10 @@ fn put_both(
         (table.new.rows ≡ with_entry (with_entry table.old.rows first.entry) second.entry) }
     ensures owned { OnOk result (IsOwned table.new) }
     ensures ready { OnOk result (IsReady table.new) }
+    ensures room { OnOk result (HasRoomFor 4 4 4 0 0 0 0 table.new) }
     ensures refused { IfErr result (λ e. e ≡ Map2dError.TooLarge) }
 {
+    room();
     put_entry(table, first)?;
     put_entry(table, second)
 }
@@ -123,6 +131,7 @@ pub fn change_table(
     ensures rows { OnOk result
         (table.new.rows ≡ changed table.old.rows puts.entry discards.entry) }
     ensures ready { OnOk result (IsReady table.new) }
+    ensures room { OnOk result (HasRoomFor 4 4 4 0 0 0 0 table.new) }
     ensures untouched { IfErr result (λ e. (e ≡ Map2dError.TooLarge → ⊥) →
         table.new.rows ≡ table.old.rows) }
 {
@@ -148,12 +157,27 @@ pub fn change_image<'a>(
         × Stands image.now m
         × (table.rows ≡ changed m puts.entry discards.entry))) }
     ensures ready { IfOk result (λ outcome. IfOk outcome IsReady) }
+    ensures room { IfOk result (λ outcome. IfOk outcome (HasRoomFor 4 4 4 0 0 0 0)) }
 {
     let mut table = parse_image(image)?;
     match change_table(alloc, &mut table, puts, discards) {
         Ok(()) => Ok(Ok(table)),
         Err(error) => Ok(Err(error)),
     }
+}
+
+/// Sends the line of the image that the table is stored as. It takes no memory: the table has the
+/// room that puts and discards left of what was made for them.
+pub fn send_table<K: Sink>(
+    alloc: Global,
+    table: &mut StoredTable<'_>,
+    sink: &mut K,
+) -> Result<(), Failed>
+    requires { HasRoomFor 4 4 4 0 0 0 0 table.old }
+    ensures text { Takes (K.taken sink.old) (K.taken sink.new) result (answers table.old.rows []) }
+    ensures rows { OnOk result (table.new.rows ≡ table.old.rows) }
+{
+    serve(table, &Commands::new(alloc), sink)
 }
 
 /// The parts of the image that the table is stored as, which lie in the table's own bytes. The

@@ -1,11 +1,12 @@
 // A table that is stored as an image, by the calls of its own crate.
 ghost use Rattle.std.specs.Prelude.{IfOk};
-ghost use Rattle.zv_map2d.specs.Room.{IsReady};
+ghost use Rattle.zv_map2d.specs.Room.{HasRoomFor, IsReady};
 
 use std::alloc::Global;
 use std::process::Abort;
 use std::test::Fail;
-use zv_callers::images::{Entry, Keys, StoredTable, change_image, stored_parts};
+use zv_callers::images::{Entry, Keys, StoredTable, change_image, send_table, stored_parts};
+use zv_devices::MemSink;
 use zv_map2d::{EditError, Map2dError};
 
 // The image of "a" in "b", which has 1.
@@ -27,7 +28,8 @@ fn changed(
     image: &'static [u8],
     value: &[u8],
 ) -> Result<Result<StoredTable<'static>, Map2dError>, EditError>
-    ensures { IfOk result (λ outcome. IfOk outcome IsReady) }
+    ensures ready { IfOk result (λ outcome. IfOk outcome IsReady) }
+    ensures room { IfOk result (λ outcome. IfOk outcome (HasRoomFor 4 4 4 0 0 0 0)) }
 {
     let first = Entry {
         keys: keys("a", "c"),
@@ -61,6 +63,32 @@ fn is_stored(rt: &impl Abort, table: &mut StoredTable<'_>)
 fn an_image_is_changed(rt: HostRuntime) -> Result<(), Fail> {
     match changed(rt.alloc(), ONE_PAIR, &[3])? {
         Ok(mut table) => is_stored(&rt, &mut table),
+        Err(_) => panic!(rt; "there is room"),
+    }
+    Ok(())
+}
+
+// The line of the image of "a" in "c" with 2 and 2, and "d" in "e" with 3.
+const LINE: &[u8] = b"image x\
+    0600000000000000020001006164\
+    08000000000000000100000002000000\
+    0600000000000000020001006365\
+    070000000000000002000200020203\n";
+
+// The line is sent, by one write.
+fn is_sent(rt: &impl Abort, alloc: Global, table: &mut StoredTable<'_>) -> Result<(), Fail>
+    requires { HasRoomFor 4 4 4 0 0 0 0 table.old }
+{
+    let mut sink = MemSink::new(alloc, 1_000, 0, &[])?;
+    assert!(rt; send_table(alloc, table, &mut sink) == Ok(()));
+    assert!(rt; sink.taken() == LINE);
+    Ok(())
+}
+
+#[test]
+fn a_changed_image_is_sent(rt: HostRuntime) -> Result<(), Fail> {
+    match changed(rt.alloc(), ONE_PAIR, &[3])? {
+        Ok(mut table) => is_sent(&rt, rt.alloc(), &mut table)?,
         Err(_) => panic!(rt; "there is room"),
     }
     Ok(())
