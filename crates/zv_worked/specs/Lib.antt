@@ -1,5 +1,5 @@
 pub mod Faults
 pub mod Lengths
+pub mod NoPlacements
 pub mod Puts
 pub mod Refusals
-pub mod NoPlacements

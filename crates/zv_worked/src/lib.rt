@@ -9,6 +9,20 @@ ghost use Rattle.zv_worked.specs.Lengths.{CountOfNone, CountOfOne, LargestOfTwoB
 ghost use Rattle.zv_worked.specs.Lengths.{LargestWithCount, MostIsRefused, NoneHaveNoLength};
 ghost use Rattle.zv_worked.specs.Lengths.{OneBelowMost, StartsCount, StartsFill};
 ghost use Rattle.zv_worked.specs.Lengths.{TooLargeOfTwoBytes, TooLargeWithCount, UnfitIsRefused};
+ghost use Rattle.zv_worked.specs.NoPlacements.{AlikeHaveNoPlace, DifferentAreNotRepeated};
+ghost use Rattle.zv_worked.specs.NoPlacements.{DifferentHavePlaces, EqualHaveNoPlace};
+ghost use Rattle.zv_worked.specs.NoPlacements.{FitTableIsNotTooLarge, HashesAreNotRepeated};
+ghost use Rattle.zv_worked.specs.NoPlacements.{HashesAreNotTooLarge, LaterIsNotFirst};
+ghost use Rattle.zv_worked.specs.NoPlacements.{LaterIsNotNamed, ManyAreTooMany, ManyBeforeRepeated};
+ghost use Rattle.zv_worked.specs.NoPlacements.{ManyBeforeStuck, ManyBeforeTooLarge};
+ghost use Rattle.zv_worked.specs.NoPlacements.{ManyPairsAreTooMany, ManyPairsBeforeStuck};
+ghost use Rattle.zv_worked.specs.NoPlacements.{ManyWantNoMemory, MostAreNotTooMany};
+ghost use Rattle.zv_worked.specs.NoPlacements.{MostMayWantMemory, MostPairsAreNotTooMany};
+ghost use Rattle.zv_worked.specs.NoPlacements.{MostPairsMayBeTooLarge, OneHasPlace};
+ghost use Rattle.zv_worked.specs.NoPlacements.{OtherBucketIsNotStuck, RepeatedBeforeStuck};
+ghost use Rattle.zv_worked.specs.NoPlacements.{TableMayWantMemory, TwiceIsRepeated};
+ghost use Rattle.zv_worked.specs.NoPlacements.{UnfitBeforeStuck, UnfitTableIsNotRepeated};
+ghost use Rattle.zv_worked.specs.NoPlacements.{UnfitTableIsTooLarge};
 ghost use Rattle.zv_worked.specs.Puts.{FullIsNotDone, FullIsNotTooLarge, FullIsTooMany};
 ghost use Rattle.zv_worked.specs.Puts.{FullWantsNoMemory, PutIsDone, PutIsNotTooLarge};
 ghost use Rattle.zv_worked.specs.Puts.{PutIsNotTooMany, PutMayWantMemory, UnfitPutIsNotDone};
@@ -16,18 +30,6 @@ ghost use Rattle.zv_worked.specs.Puts.{UnfitPutIsNotTooMany, UnfitPutIsTooLarge}
 ghost use Rattle.zv_worked.specs.Puts.{UnfitPutWantsNoMemory};
 ghost use Rattle.zv_worked.specs.Refusals.{FitsIsDone, FitsIsNotTooLarge, FitsMayWantMemory};
 ghost use Rattle.zv_worked.specs.Refusals.{UnfitIsNotDone, UnfitIsTooLarge, UnfitWantsNoMemory};
-ghost use Rattle.zv_worked.specs.NoPlacements.{AlikeHaveNoPlace, DifferentAreNotRepeated};
-ghost use Rattle.zv_worked.specs.NoPlacements.{DifferentHavePlaces, EqualHaveNoPlace};
-ghost use Rattle.zv_worked.specs.NoPlacements.{FitTableIsNotTooLarge, HashesAreNotRepeated};
-ghost use Rattle.zv_worked.specs.NoPlacements.{HashesAreNotTooLarge, LaterIsNotFirst, LaterIsNotNamed};
-ghost use Rattle.zv_worked.specs.NoPlacements.{ManyAreTooMany, ManyBeforeRepeated, ManyBeforeStuck};
-ghost use Rattle.zv_worked.specs.NoPlacements.{ManyBeforeTooLarge, ManyPairsAreTooMany};
-ghost use Rattle.zv_worked.specs.NoPlacements.{ManyPairsBeforeStuck, ManyWantNoMemory};
-ghost use Rattle.zv_worked.specs.NoPlacements.{MostAreNotTooMany, MostMayWantMemory};
-ghost use Rattle.zv_worked.specs.NoPlacements.{MostPairsAreNotTooMany, MostPairsMayBeTooLarge};
-ghost use Rattle.zv_worked.specs.NoPlacements.{OneHasPlace, OtherBucketIsNotStuck, RepeatedBeforeStuck};
-ghost use Rattle.zv_worked.specs.NoPlacements.{TableMayWantMemory, TwiceIsRepeated, UnfitBeforeStuck};
-ghost use Rattle.zv_worked.specs.NoPlacements.{UnfitTableIsNotRepeated, UnfitTableIsTooLarge};
 
 /// What a container answers where its size rule takes an element and where it does not. It does
 /// nothing.
