@@ -13,7 +13,7 @@ use std::cmp::Ordering;
 use std::sync::ledger::Ledger;
 use zv_fixed::ZeroSliceULE;
 use zv_hashmap::HashArg;
-use zv_ule::{Steps, StrULE, VarRef, ZvArg, ZvOrdArg, compare_bytes};
+use zv_ule::{Steps, StrULE, VarRef, ZvArg, ZvOrdArg};
 use zv_xxhash::XxHash64;
 
 /// Two texts as a key of a hash table: how long the first one is, as four bytes, the lowest first,
@@ -108,7 +108,7 @@ fn compare_start<'b>(bytes: &'b [u8], piece: &[u8]) -> (Ordering, &'b [u8])
     ensures rest { result.1.now ≡ drop (length piece.now) bytes.now }
 {
     let (start, rest) = bytes.split_at(piece.len().min(bytes.len()));
-    (compare_bytes(start, piece), rest)
+    (start.cmp(piece), rest)
 }
 
 impl PairKey<'_> {
@@ -129,7 +129,7 @@ impl PairKey<'_> {
         if first.is_ne() {
             return first;
         }
-        compare_bytes(rest, self.key1.as_bytes())
+        rest.cmp(self.key1.as_bytes())
     }
 }
 

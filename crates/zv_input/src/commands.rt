@@ -7,17 +7,20 @@ use crate::command_iter::CommandIter;
 use crate::sizes::PutSizes;
 use std::alloc::Global;
 use std::marker::Model;
+use thiserror::Error;
 use zv_ule::NoMemory;
 
 /// The most that a list's commands come to: 1 for each, and the lengths of all their fields.
 pub const MAX_COMMANDS: usize = 16_777_216;
 
 /// Why a command isn't added.
-#[derive(Clone, Copy, Debug, PartialEq, Eq)]
+#[derive(Clone, Copy, Debug, PartialEq, Eq, Error)]
 pub enum CommandsError {
     /// The list would pass its limit.
+    #[error("too many commands")]
     Full,
     /// No memory was given.
+    #[error("out of memory")]
     Memory,
 }
 

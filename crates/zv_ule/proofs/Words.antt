@@ -1,13 +1,13 @@
--- Four or eight bytes compare as the number that they are.
-use Rattle.zv_ule.proofs.Common.{◌≡◌, ℕ, ◌+◌, ◌*◌, ◌<◌, ◌≤◌, List, [], ◌∷◌, length, drop, take, length-drop, drop-drop, get_or, refl, sym}
-use Rattle.zv_ule.proofs.Common.{ap, ◌∙◌, subst, suc, zero}
+-- Four bytes compare as the number that they are.
+use Rattle.zv_ule.proofs.Common.{◌≡◌, ℕ, ◌+◌, ◌*◌, ◌<◌, ◌≤◌, List, [], ◌∷◌, length, drop, take, get_or, refl, sym}
+use Rattle.zv_ule.proofs.Common.{ap, ◌∙◌, suc, zero}
 use Rattle.zv_ule.proofs.Common.{arith, nat_cmp_is, slice_cmp, nat_cmp, ordering_then, Ordering, Less, Equal, Greater}
-use Rattle.std.proofs.Common.{get_or-drop, Fits, w8}
+use Rattle.std.proofs.Common.{Fits, w8}
 use Rattle.std.proofs.Math.Nat.{mul-le-mul_right}
 use Rattle.std.proofs.lemmas.List.{length-take-le, get_or-take}
-use Rattle.std.proofs.lemmas.Nat.{be_bytes_4, be_bytes_8}
+use Rattle.std.proofs.lemmas.Nat.{be_bytes_4}
 use Rattle.std.specs.Cmp.{ranked}
-use Rattle.std.specs.Int.{from_be_bytes, to_be_bytes, w32, w64}
+use Rattle.std.specs.Int.{from_be_bytes, to_be_bytes, w32}
 use Rattle.std.specs.Ordering.{MatchOrdering}
 use Rattle.zv_ule.specs.Fronts.{OrdersFront}
 use Rattle.zv_ule.proofs.Fronts.{front_first}
@@ -60,26 +60,6 @@ by_four a b la lb fa fb =
     ∙ then_assoc (ordering_then (byte 0) (byte 1)) (byte 2) (ordering_then (byte 3) after) ∙ then_assoc (byte 0) (byte 1) _
     ∙ (λ i. slice_cmp nat_cmp (sym (four a la) i) (sym (four b lb) i))
 
-bytes_behind : (xs : List ℕ) → AreBytes xs → AreBytes (drop 4 xs)
-bytes_behind xs fits i = subst (Fits w8) (sym (get_or-drop 4 xs i 0)) (fits (4 + i))
-
--- eight bytes are two numbers of four
-by_eight : (a b : List ℕ) → 8 ≤ length a → 8 ≤ length b → AreBytes a → AreBytes b
-    → ordering_then (nat_cmp (from_be_bytes w64 a) (from_be_bytes w64 b)) (slice_cmp nat_cmp (drop 8 a) (drop 8 b)) ≡ slice_cmp nat_cmp a b
-by_eight a b la lb fa fb =
-    let low : List ℕ → ℕ = λ xs. from_be_bytes w32 (drop 4 xs) in
-    let low_fits : (xs : List ℕ) → AreBytes (drop 4 xs) → low xs < 4294967296 = λ xs f. omega (arith, f 0, f 1, f 2, f 3) in
-    let whole : (xs : List ℕ) → from_be_bytes w32 xs * 4294967296 + low xs ≡ from_be_bytes w64 xs =
-    λ xs. omega (arith, get_or-drop 4 xs 0 0, get_or-drop 4 xs 1 0, get_or-drop 4 xs 2 0, get_or-drop 4 xs 3 0) in
-    let two = digit 4294967296 (from_be_bytes w32 a) (from_be_bytes w32 b) (low a) (low b)
-    (low_fits a (bytes_behind a fa)) (low_fits b (bytes_behind b fb)) in
-    (λ i. ordering_then ((sym (two ∙ (λ j. nat_cmp (whole a j) (whole b j)))) i)
-    (slice_cmp nat_cmp (sym (drop-drop 4 4 a) i) (sym (drop-drop 4 4 b) i)))
-    ∙ then_assoc (nat_cmp (from_be_bytes w32 a) (from_be_bytes w32 b)) (nat_cmp (low a) (low b)) _
-    ∙ ap (ordering_then (nat_cmp (from_be_bytes w32 a) (from_be_bytes w32 b)))
-    (by_four (drop 4 a) (drop 4 b) (omega (arith, length-drop 4 a)) (omega (arith, length-drop 4 b)) (bytes_behind a fa) (bytes_behind b fb))
-    ∙ by_four a b (omega arith) (omega arith) fa fb
-
 bytes_in : (n : ℕ) (xs : List ℕ) → AreBytes xs → (i : ℕ) → get_or (take n xs) i 0 < 256
 bytes_in zero xs fits i = omega arith
 bytes_in (suc n) [] fits i = omega arith
@@ -98,26 +78,3 @@ four_first a b m n o la lb fa fb is_m is_n is_o =
     let rest : Ordering = slice_cmp nat_cmp (drop 4 a) (drop 4 b) in
     front_first a b 4 o rest (ap (λ p. ordering_then p rest) (is_o ∙ (λ i. nat_cmp (is_m i) (is_n i))) ∙ by_four a b la lb fa fb)
     (λ equal. sym (spelled_four a la fa) ∙ ap (to_be_bytes w32) (sym is_m ∙ ranked m n Equal (sym equal ∙ is_o) ∙ is_n) ∙ spelled_four b lb fb)
-
-spelled_eight : (xs : List ℕ) → 8 ≤ length xs → AreBytes xs → to_be_bytes w64 (from_be_bytes w64 xs) ≡ take 8 xs
-spelled_eight xs long fits =
-    let at : (k : ℕ) → k < 8 → get_or (take 8 xs) k 0 ≡ get_or xs k 0 = λ k. get_or-take 8 xs k 0 in
-    be_bytes_8 (take 8 xs) (from_be_bytes w64 xs) (length-take-le 8 xs long) (bytes_in 8 xs fits)
-    (omega (
-      arith,
-      at 0 (omega arith),
-      at 1 (omega arith),
-      at 2 (omega arith),
-      at 3 (omega arith),
-      at 4 (omega arith),
-      at 5 (omega arith),
-      at 6 (omega arith),
-      at 7 (omega arith),
-    ))
-
-pub eight_first : (a b : List ℕ) (m n : ℕ) (o : Ordering) → 8 ≤ length a → 8 ≤ length b → AreBytes a → AreBytes b
-    → m ≡ from_be_bytes w64 a → n ≡ from_be_bytes w64 b → o ≡ nat_cmp m n → OrdersFront a b 8 o
-eight_first a b m n o la lb fa fb is_m is_n is_o =
-    let rest : Ordering = slice_cmp nat_cmp (drop 8 a) (drop 8 b) in
-    front_first a b 8 o rest (ap (λ p. ordering_then p rest) (is_o ∙ (λ i. nat_cmp (is_m i) (is_n i))) ∙ by_eight a b la lb fa fb)
-    (λ equal. sym (spelled_eight a la fa) ∙ ap (to_be_bytes w64) (sym is_m ∙ ranked m n Equal (sym equal ∙ is_o) ∙ is_n) ∙ spelled_eight b lb fb)

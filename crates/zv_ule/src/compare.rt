@@ -1,6 +1,6 @@
-// The order of byte strings.
-ghost use Rattle.std.specs.Prelude.{◌≡◌, ◌<◌, ◌≤◌, length};
-ghost use Rattle.std.specs.Int.{from_be_bytes, w32, w64};
+// The order of texts.
+ghost use Rattle.std.specs.Prelude.{◌≡◌, ◌<◌, ◌≤◌, length, min};
+ghost use Rattle.std.specs.Int.{from_be_bytes, w32};
 ghost use Rattle.std.specs.Cmp.Lexicographic.{slice_cmp};
 ghost use Rattle.std.specs.Ordering.{nat_cmp};
 ghost use Rattle.zv_ule.specs.Fronts.{OrdersFront};
@@ -47,17 +47,6 @@ fn first_four(bytes: &[u8]) -> u32
     u32::from_be_bytes([bytes[0], bytes[1], bytes[2], bytes[3]])
 }
 
-// The number of the first eight bytes, the first of them the highest.
-#[inline(always)]
-fn first_eight(bytes: &[u8]) -> u64
-    requires { 8 ≤ length bytes.now }
-    ensures { result ≡ from_be_bytes w64 bytes.now }
-{
-    u64::from_be_bytes([
-        bytes[0], bytes[1], bytes[2], bytes[3], bytes[4], bytes[5], bytes[6], bytes[7],
-    ])
-}
-
 #[inline(always)]
 fn order_of_four(a: &[u8], b: &[u8]) -> Ordering
     requires a { 4 ≤ length a.now }
@@ -65,15 +54,6 @@ fn order_of_four(a: &[u8], b: &[u8]) -> Ordering
     ensures { OrdersFront a.now b.now 4 result }
 {
     order_of(first_four(a) as u64, first_four(b) as u64)
-}
-
-#[inline(always)]
-fn order_of_eight(a: &[u8], b: &[u8]) -> Ordering
-    requires a { 8 ≤ length a.now }
-    requires b { 8 ≤ length b.now }
-    ensures { OrdersFront a.now b.now 8 result }
-{
-    order_of(first_eight(a), first_eight(b))
 }
 
 // Of four to eight bytes, the first four and the last four.
@@ -90,52 +70,31 @@ fn order_by_four(a: &[u8], b: &[u8], both: usize) -> Ordering
     }
 }
 
-// Of eight bytes and more, eight after eight, and then the last eight.
+// The order of byte strings of which one has fewer than eight bytes: byte by byte, or the first
+// four and the last four bytes of both.
 #[inline(always)]
-fn order_by_eight(a: &[u8], b: &[u8], both: usize) -> Ordering
-    requires a { both ≤ length a.now }
-    requires b { both ≤ length b.now }
-    requires many { 8 ≤ both }
-    ensures { OrdersFront a.now b.now both result }
-{
-    let mut start = 0;
-    while both - start > 8 {
-        match order_of_eight(&a[start..], &b[start..]) {
-            Ordering::Equal => start += 8,
-            order => return order,
-        }
-    }
-    order_of_eight(&a[both - 8..], &b[both - 8..])
-}
-
-#[inline(always)]
-fn order_by(a: &[u8], b: &[u8], both: usize) -> Ordering
-    requires a { both ≤ length a.now }
-    requires b { both ≤ length b.now }
-    requires some { 4 ≤ both }
-    ensures { OrdersFront a.now b.now both result }
-{
-    if both < 8 {
-        order_by_four(a, b, both)
-    } else {
-        order_by_eight(a, b, both)
-    }
-}
-
-/// The order of byte strings, byte by byte; where one is the start of the other, the longer is
-/// greater. Eight or four bytes at a time are compared as one number, the last of them with bytes
-/// that were compared before. It is written out so that a search has it inlined, where that of
-/// slices is a call.
-#[inline(always)]
-pub fn compare_bytes(a: &[u8], b: &[u8]) -> Ordering
+fn compare_short(a: &[u8], b: &[u8]) -> Ordering
+    requires short { min (length a.now) (length b.now) < 8 }
     ensures order { result ≡ slice_cmp nat_cmp a.now b.now }
 {
     let both = a.len().min(b.len());
     if both < 4 {
         return compare_each(a, b);
     }
-    match order_by(a, b, both) {
+    match order_by_four(a, b, both) {
         Ordering::Equal => a.len().cmp(&b.len()),
         order => order,
     }
+}
+
+/// The order of texts, byte by byte; where one is the start of the other, the longer is greater.
+/// It is that of `str`, which is a call: a search has the comparison with a short text inlined.
+#[inline(always)]
+pub(crate) fn compare_texts(a: &str, b: &str) -> Ordering
+    ensures order { result ≡ slice_cmp nat_cmp a.now b.now }
+{
+    if a.len().min(b.len()) < 8 {
+        return compare_short(a.as_bytes(), b.as_bytes());
+    }
+    a.cmp(b)
 }

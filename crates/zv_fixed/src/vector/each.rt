@@ -6,6 +6,8 @@ ghost use Rattle.zv_fixed.specs.declared.vector.each.EachError.TheVariants.{Memo
 
 use super::ZeroVec;
 use std::alloc::Global;
+use std::error::Error;
+use std::fmt;
 use zv_ule::{AsULE, NoMemory};
 
 /// Why a list was not gone over to its end.
@@ -16,6 +18,17 @@ pub enum EachError<E> {
     /// No memory was given.
     Memory,
 }
+
+impl<E: fmt::Display> fmt::Display for EachError<E> {
+    fn fmt<W: fmt::Write>(&self, f: &mut fmt::Formatter<W>) -> fmt::Result {
+        match self {
+            EachError::Stopped(error) => write!(f, "{error}"),
+            EachError::Memory => f.write_str("out of memory"),
+        }
+    }
+}
+
+impl<E: fmt::Debug + fmt::Display + Drop> Error for EachError<E> {}
 
 impl<E> From<NoMemory> for EachError<E> {
     ghost from_gives = { λ _ e. e ≡ Memory };

@@ -194,7 +194,7 @@ impl<'a, T: AsULE> ZeroVec<'a, T> {
         self.as_slice().iter()
     }
 
-    /// The values are those that the chunks of the bytes are read as, in order. The call does
+    /// Each chunk of the bytes is read as the value at its place. The call does
     /// nothing when it runs.
     #[inline]
     pub fn all_read(&self)

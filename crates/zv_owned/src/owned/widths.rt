@@ -47,7 +47,7 @@ impl<T: ZvKind> VarZeroVecOwned<T, Index16> {
         }
     }
 
-    /// The same with a counter that nobody reads.
+    /// The same, uncounted.
     #[inline]
     fn widen_from<L: Ledger>(
         self,
@@ -124,7 +124,7 @@ impl<T: ZvKind> VarZeroVecOwned<T, Index32> {
         }
     }
 
-    /// The same with a counter that nobody reads.
+    /// The same, uncounted.
     #[inline]
     fn narrow_from<L: Ledger>(
         self,

@@ -1,13 +1,13 @@
-// Arguments: values in hand that stand for an element of a kind.
+// Arguments: values that stand for an element of a kind.
 ghost use Rattle.std.specs.Prelude.{◌≡◌, ℕ, string_bytes, ◌+◌, ◌^◌, ◌<◌, List, length, None};
 ghost use Rattle.std.specs.Prelude.{IsTrue};
 ghost use Rattle.std.specs.declared.cmp.Ordering.{Ordering};
 ghost use Rattle.zv_ule.specs.Views.{element_of};
 
-use crate::compare::compare_bytes;
+use crate::compare::compare_texts;
 use crate::element::{AsULE, ULE};
 use crate::kind::{ZvKind, ZvOrd, compare_with};
-use crate::kinds::text::StrULE;
+use crate::kinds::text::{StrULE, text_of};
 use crate::kinds::view::VarRef;
 use crate::steps::Steps;
 use std::cmp::Ordering;
@@ -104,7 +104,7 @@ impl ZvOrdArg<StrULE> for &str {
     #[inline]
     fn arg_compare<L: Ledger>(&self, element: &[u8], steps: &mut Steps<L>) -> Ordering {
         steps.tick();
-        compare_bytes(element, self.as_bytes())
+        compare_texts(text_of(element), self)
     }
 }
 

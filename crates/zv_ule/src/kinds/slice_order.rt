@@ -56,7 +56,8 @@ impl<U: ULE + Ord> ZvOrd for SliceULE<U> {
     ghost total = { on_total (values_of U.width U.value) (lists_total U.total) };
 }
 
-/// The order of a stored list and one in hand, value by value, without writing the latter.
+/// The order of a stored list and one that is not stored, value by value, without writing the
+/// latter.
 fn compare_values<U: ULE + Ord>(a: &[u8], b: &[U]) -> Ordering
     requires usable { IsTrue (is_width U.width) }
     requires spells { chunks_fault U.TY U.width U.chunk_fault a.now ≡ None }

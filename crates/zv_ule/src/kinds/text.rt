@@ -1,12 +1,12 @@
 // Texts.
-ghost use Rattle.std.specs.Prelude.{◌<◌, true, None};
+ghost use Rattle.std.specs.Prelude.{◌≡◌, ◌<◌, true, None};
 ghost use Rattle.std.specs.Cmp.Lexicographic.{slice_cmp};
 ghost use Rattle.std.specs.Ordering.{nat_cmp};
 ghost use Rattle.std.proofs.lemmas.Cmp.{nat_list_cmp_total};
 ghost use Rattle.zv_ule.specs.Kinds.{text_boundary, text_fault};
 ghost use Rattle.zv_ule.specs.declared.error.TyName.TheVariants.{Str};
 
-use crate::compare::compare_bytes;
+use crate::compare::compare_texts;
 use crate::error::{TyName, UleError};
 use crate::kind::{ZvKind, ZvOrd};
 use crate::steps::Steps;
@@ -61,13 +61,23 @@ impl ZvKind for StrULE {
     }
 }
 
+/// The text that an element is, with no copy and no check.
+#[inline(always)]
+#[tactic(auto, using(crate::proofs::Texts::text_is))]
+pub(crate) fn text_of(bytes: &[u8]) -> &str
+    requires { text_fault bytes.now ≡ None }
+    ensures { result.now ≡ bytes.now }
+{
+    unsafe { str::from_utf8_unchecked(bytes) }
+}
+
 impl ZvOrd for StrULE {
     ghost cmp = { slice_cmp nat_cmp };
 
     #[inline]
     fn compare<L: Ledger>(a: &[u8], b: &[u8], steps: &mut Steps<L>) -> Ordering {
         steps.tick();
-        compare_bytes(a, b)
+        compare_texts(text_of(a), text_of(b))
     }
 
     ghost total = { nat_list_cmp_total };

@@ -38,7 +38,7 @@ impl VarULE for StrULE {}
 
 impl<U: ULE> VarULE for SliceULE<U> {}
 
-/// A value that is written as an element of a kind: a text in hand, a slice, an element that is
+/// A value that is written as an element of a kind: a text, a slice, an element that is
 /// viewed. Its *spelling* is the bytes that are written.
 pub trait EncodeAsVarULE<T: ZvKind> {
     /// Whether the value has a spelling, of fewer than 2^64 bytes.

@@ -8,7 +8,7 @@ use crate::element::{AsULE, load};
 use crate::error::UleError;
 use crate::kind::{ZvKind, ZvOrd, order};
 use crate::kinds::slices::SliceULE;
-use crate::kinds::text::StrULE;
+use crate::kinds::text::{StrULE, text_of};
 use std::alloc::AllocError;
 use std::cmp::Ordering;
 use std::marker::PhantomData;
@@ -110,7 +110,7 @@ impl<T: AsULE> VarRef<'_, T> {
     }
 }
 
-#[tactic(auto, using(crate::proofs::Texts::text_good, crate::proofs::Texts::text_is))]
+#[tactic(auto, using(crate::proofs::Texts::text_good))]
 impl<'b> VarRef<'b, StrULE> {
     ghost use Rattle.zv_ule.specs.Views.{element_of};
 
@@ -130,7 +130,7 @@ impl<'b> VarRef<'b, StrULE> {
     pub fn as_str(self) -> &'b str
         ensures { result.now ≡ element_of self.entry }
     {
-        unsafe { str::from_utf8_unchecked(self.as_bytes()) }
+        text_of(self.as_bytes())
     }
 }
 
