@@ -1,9 +1,13 @@
-//! Tests of framed forms at concrete kinds.
+//! Tests of framed forms and of JSON, at concrete kinds.
 #![tactic(auto)]
 
 #[cfg(test)]
-mod built;
+mod framed;
 #[cfg(test)]
-mod faults;
+mod json;
 #[cfg(test)]
-mod forms;
+mod maps;
+#[cfg(test)]
+mod maps2d;
+#[cfg(test)]
+mod tables;

@@ -1,4 +1,4 @@
-//! The program over devices that fail, and at images and tables that are malformed.
+//! The program over devices that fail, images and tables that are malformed, and frozen images.
 #![tactic(auto)]
 
 #[cfg(test)]
@@ -6,11 +6,15 @@ mod devices;
 #[cfg(test)]
 mod forms;
 #[cfg(test)]
+mod frozen;
+#[cfg(test)]
 mod hash_tables;
 #[cfg(test)]
 mod images;
 #[cfg(test)]
 mod lists;
+#[cfg(test)]
+mod refused;
 #[cfg(test)]
 mod std_devices;
 #[cfg(test)]

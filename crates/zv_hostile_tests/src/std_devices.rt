@@ -1,11 +1,11 @@
 // Readers and writers of std of which each call has a flaw in turn.
-use crate::forms::{Form, JoinedForm, PIECE, forms, join_form};
+use crate::forms::{JoinedForm, PIECE, forms, is_told, join_form};
 use std::alloc::Global;
 use std::io;
 use std::io::{Read, Write};
 use std::process::Abort;
 use std::test::Fail;
-use zv_tool::{Status, StdSink, StdSource, Words, run};
+use zv_tool::{Status, StdSink, StdSource, run};
 
 // What one call of a reader or a writer does.
 #[derive(Clone, Copy, PartialEq, Eq)]
@@ -33,7 +33,7 @@ struct Flawed<D> {
 }
 
 impl<D> Flawed<D> {
-    fn new(device: D, flaw: Flaw, at: u8) -> Flawed<D> {
+    fn new(device: D, (flaw, at): (Flaw, u8)) -> Flawed<D> {
         Flawed {
             device,
             flaw,
@@ -83,73 +83,63 @@ impl<D: Write> Write for Flawed<D> {
     }
 }
 
-// How a run ends over a reader and a writer, and what was written.
-fn run_over(
-    alloc: Global,
-    words: &Words,
-    reader: Flawed<&[u8]>,
-    writer: (Flaw, u8),
-) -> (Status, Vec<u8>) {
-    let (flaw, at) = writer;
-    let mut out = Vec::new(alloc);
-    let mut source = StdSource::new(reader);
-    let mut sink = StdSink::new(Flawed::new(&mut out, flaw, at));
-    let status = run(alloc, words, &mut source, &mut sink);
-    (status, out)
-}
-
 // No call of a device has this number.
 const NEVER: u8 = 255;
 
+// A run whose reader or whose writer has a flaw at this call: how it ends, and how much of its
+// output is written.
+fn try_flaws(
+    rt: &impl Abort,
+    alloc: Global,
+    joined: &JoinedForm,
+    read: (Flaw, u8),
+    write: (Flaw, u8),
+    wanted: (Status, usize),
+) {
+    let mut out = Vec::new(alloc);
+    let mut source = StdSource::new(Flawed::new(joined.input.as_slice(), read));
+    let mut sink = StdSink::new(Flawed::new(&mut out, write));
+    let status = run(alloc, &joined.words, &mut source, &mut sink);
+    let call = usize::from(read.1.min(write.1));
+    is_told(rt, joined, call, (status, &out), wanted);
+}
+
 // A run whose reader has a flaw at this call: where it fails nothing is written, and else the
 // answer is whole.
-fn try_read(rt: &impl Abort, alloc: Global, form: &Form, joined: &JoinedForm, flaw: Flaw, at: u8) {
-    let name = form.name;
-    let reader = Flawed::new(joined.input.as_slice(), flaw, at);
-    let (status, out) = run_over(alloc, &joined.words, reader, (Flaw::Fails, NEVER));
-    if flaw == Flaw::Fails && at < form.reads {
-        assert!(rt; status == Status::ReadFault, "{name}: read {at}");
-        assert!(rt; out.is_empty(), "{name}: read {at}");
+fn try_read(rt: &impl Abort, alloc: Global, joined: &JoinedForm, flaw: Flaw, at: u8) {
+    let wanted = if flaw == Flaw::Fails && at < joined.form.reads {
+        (Status::ReadFault, 0)
     } else {
-        assert!(rt; status == form.status, "{name}: read {at}");
-        assert!(rt; out == joined.output, "{name}: read {at}");
-    }
+        joined.whole()
+    };
+    try_flaws(rt, alloc, joined, (flaw, at), (Flaw::Fails, NEVER), wanted);
 }
 
 #[test]
 fn each_read_of_std_can_have_a_flaw(rt: HostRuntime) -> Result<(), Fail> {
-    let alloc = rt.alloc();
     for form in forms() {
-        let joined = join_form(alloc, form)?;
+        let joined = join_form(rt.alloc(), form)?;
         for at in 0..=form.reads {
-            try_read(&rt, alloc, form, &joined, Flaw::Fails, at);
-            try_read(&rt, alloc, form, &joined, Flaw::Interrupted, at);
-            try_read(&rt, alloc, form, &joined, Flaw::Short, at);
+            for flaw in [Flaw::Fails, Flaw::Interrupted, Flaw::Short] {
+                try_read(&rt, rt.alloc(), &joined, flaw, at);
+            }
         }
     }
     Ok(())
 }
 
 // A run whose writer has a flaw at this write: where it is one that is made good the answer is
-// whole, and else what is written is a front of it, with the piece where only the flush failed.
-fn try_write(rt: &impl Abort, alloc: Global, form: &Form, joined: &JoinedForm, flaw: Flaw, at: u8) {
-    let name = form.name;
-    let reader = Flawed::new(joined.input.as_slice(), Flaw::Fails, NEVER);
-    let (status, out) = run_over(alloc, &joined.words, reader, (flaw, at));
+// whole, and else what comes before that write is written, with it where only the flush failed.
+fn try_write(rt: &impl Abort, alloc: Global, joined: &JoinedForm, flaw: Flaw, at: u8) {
+    let write = usize::from(at);
     let is_made_good = matches!(flaw, Flaw::Interrupted | Flaw::Short);
-    if is_made_good || joined.writes.len() <= usize::from(at) {
-        assert!(rt; status == form.status, "{name}: write {at}");
-        assert!(rt; out == joined.output, "{name}: write {at}");
-        return;
-    }
-    let whole = usize::from(at).saturating_add(usize::from(flaw == Flaw::Unflushed));
-    let mut len = 0usize;
-    for text in joined.writes.iter().take(whole) {
-        len = len.saturating_add(text.len());
-    }
-    assert!(rt; status == Status::WriteFault, "{name}: write {at}");
-    assert!(rt; out.len() == len, "{name}: write {at}");
-    assert!(rt; joined.output.starts_with(&out), "{name}: write {at}");
+    let wanted = if is_made_good || joined.starts.len() <= write {
+        joined.whole()
+    } else {
+        let whole = write.saturating_add(usize::from(flaw == Flaw::Unflushed));
+        (Status::WriteFault, joined.start(whole))
+    };
+    try_flaws(rt, alloc, joined, (Flaw::Fails, NEVER), (flaw, at), wanted);
 }
 
 const WRITE_FLAWS: [Flaw; 5] = [
@@ -162,12 +152,11 @@ const WRITE_FLAWS: [Flaw; 5] = [
 
 #[test]
 fn each_write_of_std_can_have_a_flaw(rt: HostRuntime) -> Result<(), Fail> {
-    let alloc = rt.alloc();
     for form in forms() {
-        let joined = join_form(alloc, form)?;
+        let joined = join_form(rt.alloc(), form)?;
         for flaw in WRITE_FLAWS {
             for at in 0..3 {
-                try_write(&rt, alloc, form, &joined, flaw, at);
+                try_write(&rt, rt.alloc(), &joined, flaw, at);
             }
         }
     }

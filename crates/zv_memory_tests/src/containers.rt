@@ -1,10 +1,11 @@
 // Containers of maps.
 ghost use Rattle.std.specs.Prelude.{◌<◌, ◌^◌, IsTrue, length};
 
+use crate::refusal::end;
 use std::alloc::Global;
 use std::process::Abort;
 use std::test::Fail;
-use zv_map::{FlexULE, MapError, MutableZeroVecLike, ZeroMapKV};
+use zv_map::{FlexULE, MutableZeroVecLike, ZeroMapKV};
 use zv_ule::{StrULE, ZvArg, ZvKind};
 
 type Of<'a, K> = <K as ZeroMapKV<'a>>::Container;
@@ -22,13 +23,10 @@ enum Call {
 }
 
 // A call, and the bytes of the list that it leaves.
-struct Row<'r> {
-    call: Call,
-    after: &'r [u8],
-}
+type Row<'r> = (Call, &'r [u8]);
 
-// Makes a call at the first place.
-fn make<'a, T, C, Q>(alloc: Global, list: &mut C, call: Call, value: &Q) -> Result<(), MapError>
+// Makes a call at the first place, and tells whether it is refused.
+fn is_refused<'a, T, C, Q>(alloc: Global, list: &mut C, call: Call, value: &Q) -> bool
 where
     T: ZvKind,
     C: MutableZeroVecLike<'a, T>,
@@ -37,16 +35,15 @@ where
 {
     let is_empty = list.zvl_len() == 0;
     match call {
-        Call::Insert => list.zvl_insert(alloc, 0, value)?,
-        Call::Push => list.zvl_push(alloc, value)?,
-        Call::Replace if !is_empty => drop(list.zvl_replace(alloc, 0, value)?),
-        Call::Remove if !is_empty => drop(list.zvl_remove(alloc, 0)?),
-        Call::Room => list.zvl_reserve_bytes(alloc, 100)?,
-        Call::Own => list.zvl_make_owned(alloc)?,
-        Call::Copy => drop(list.zvl_clone(alloc)?),
-        Call::Replace | Call::Remove => {}
+        Call::Insert => list.zvl_insert(alloc, 0, value).is_err(),
+        Call::Push => list.zvl_push(alloc, value).is_err(),
+        Call::Replace if !is_empty => list.zvl_replace(alloc, 0, value).err().is_some(),
+        Call::Remove if !is_empty => list.zvl_remove(alloc, 0).err().is_some(),
+        Call::Room => list.zvl_reserve_bytes(alloc, 100).is_err(),
+        Call::Own => list.zvl_make_owned(alloc).is_err(),
+        Call::Copy => list.zvl_clone(alloc).err().is_some(),
+        Call::Replace | Call::Remove => false,
     }
-    Ok(())
 }
 
 // Makes a call on the list of bytes, which it borrows or owns. It leaves these bytes, or the list
@@ -70,11 +67,10 @@ where
     if is_owned {
         list.zvl_make_owned(alloc)?;
     }
-    let made = make::<T, C, Q>(alloc, &mut list, row.call, value);
-    let wanted = if made.is_ok() { row.after } else { before };
-    assert!(rt; list.zvl_bytes() == wanted);
-    made?;
-    Ok(())
+    let (call, after) = *row;
+    let is_refused = is_refused::<T, C, Q>(alloc, &mut list, call, value);
+    assert!(rt; list.zvl_bytes() == if is_refused { before } else { after });
+    end(is_refused)
 }
 
 // Makes each call on a borrowed list and on an owned one.
@@ -100,37 +96,29 @@ where
 }
 
 // The list of "a", and calls with "bc".
-const TEXT: &[u8] = &[1, 0, 97];
+const TEXT: &[u8] = b"\x01\0a";
 
 const TEXTS: [Row<'static>; 7] = [
-    Row {
-        call: Call::Insert,
-        after: &[2, 0, 2, 0, 98, 99, 97],
-    },
-    Row {
-        call: Call::Push,
-        after: &[2, 0, 1, 0, 97, 98, 99],
-    },
-    Row {
-        call: Call::Replace,
-        after: &[1, 0, 98, 99],
-    },
-    Row {
-        call: Call::Remove,
-        after: &[],
-    },
-    Row {
-        call: Call::Room,
-        after: TEXT,
-    },
-    Row {
-        call: Call::Own,
-        after: TEXT,
-    },
-    Row {
-        call: Call::Copy,
-        after: TEXT,
-    },
+    (Call::Insert, b"\x02\0\x02\0bca"),
+    (Call::Push, b"\x02\0\x01\0abc"),
+    (Call::Replace, b"\x01\0bc"),
+    (Call::Remove, b""),
+    (Call::Room, TEXT),
+    (Call::Own, TEXT),
+    (Call::Copy, TEXT),
+];
+
+// The list of 1, and calls with 7.
+const NUMBER: &[u8] = b"\x01\0\0\0";
+
+const NUMBERS: [Row<'static>; 7] = [
+    (Call::Insert, b"\x07\0\0\0\x01\0\0\0"),
+    (Call::Push, b"\x01\0\0\0\x07\0\0\0"),
+    (Call::Replace, b"\x07\0\0\0"),
+    (Call::Remove, b""),
+    (Call::Room, NUMBER),
+    (Call::Own, NUMBER),
+    (Call::Copy, NUMBER),
 ];
 
 #[test]
@@ -143,40 +131,6 @@ fn texts_of_either_form_are_as_they_were(rt: HostRuntime) -> Result<(), Fail> {
     let alloc = rt.alloc();
     try_calls::<FlexULE<StrULE>, Of<'_, FlexULE<StrULE>>, &str>(&rt, alloc, TEXT, &TEXTS, &"bc")
 }
-
-// The list of 1, and calls with 7.
-const NUMBER: &[u8] = &[1, 0, 0, 0];
-
-const NUMBERS: [Row<'static>; 7] = [
-    Row {
-        call: Call::Insert,
-        after: &[7, 0, 0, 0, 1, 0, 0, 0],
-    },
-    Row {
-        call: Call::Push,
-        after: &[1, 0, 0, 0, 7, 0, 0, 0],
-    },
-    Row {
-        call: Call::Replace,
-        after: &[7, 0, 0, 0],
-    },
-    Row {
-        call: Call::Remove,
-        after: &[],
-    },
-    Row {
-        call: Call::Room,
-        after: NUMBER,
-    },
-    Row {
-        call: Call::Own,
-        after: NUMBER,
-    },
-    Row {
-        call: Call::Copy,
-        after: NUMBER,
-    },
-];
 
 #[test]
 fn numbers_are_as_they_were(rt: HostRuntime) -> Result<(), Fail> {

@@ -13,4 +13,6 @@ mod maps;
 #[cfg(test)]
 mod maps2d;
 #[cfg(test)]
+mod refusal;
+#[cfg(test)]
 mod tables;

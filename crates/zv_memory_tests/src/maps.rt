@@ -1,8 +1,9 @@
 // Maps in one level.
+use crate::refusal::end;
 use std::alloc::Global;
 use std::process::Abort;
 use std::test::Fail;
-use zv_map::{MapError, MutableZeroVecLike, ZeroMapKV};
+use zv_map::{MutableZeroVecLike, ZeroMapKV};
 use zv_map1::{MapOver, ZeroMapBorrowed};
 use zv_ule::StrULE;
 
@@ -27,27 +28,29 @@ struct Row<'r> {
     after: &'r [(u32, &'r str)],
 }
 
-// Makes a call with the name "x".
-fn make<'a, C, D>(alloc: Global, map: &mut Names<C, D>, call: Call) -> Result<(), MapError>
+// Makes a call with the name "x", and tells whether it is refused.
+fn is_refused<'a, C, D>(alloc: Global, map: &mut Names<C, D>, call: Call) -> bool
 where
     C: MutableZeroVecLike<'a, u32>,
     D: MutableZeroVecLike<'a, StrULE>,
 {
     match call {
-        Call::Insert(key) => drop(map.insert(alloc, &key, &"x")?),
-        Call::Append(key) => drop(map.try_append(alloc, &key, &"x")?),
-        Call::Remove(key) => drop(map.remove(alloc, &key)?),
-        Call::Room => map.reserve(alloc, 100)?,
-        Call::Copy => drop(map.clone(alloc)?),
+        Call::Insert(key) => map.insert(alloc, &key, &"x").err().is_some(),
+        Call::Append(key) => map.try_append(alloc, &key, &"x").err().is_some(),
+        Call::Remove(key) => map.remove(alloc, &key).err().is_some(),
+        Call::Room => map.reserve(alloc, 100).is_err(),
+        Call::Copy => map.clone(alloc).err().is_some(),
     }
-    Ok(())
 }
 
 // The map has these pairs and no others.
 fn has_pairs(rt: &impl Abort, map: ZeroMapBorrowed<'_, u32, StrULE>, pairs: &[(u32, &str)]) {
     assert!(rt; map.len() == pairs.len());
-    for ((key, value), pair) in map.iter().zip(pairs.iter()) {
-        assert!(rt; (key.value(), value.as_str()) == *pair);
+    for (key, value) in pairs {
+        match map.get(key) {
+            Some(found) => assert!(rt; found.as_str() == *value),
+            None => panic!(rt; "{key} has no value"),
+        }
     }
 }
 
@@ -58,16 +61,13 @@ where
     D: MutableZeroVecLike<'a, StrULE>,
 {
     let mut map = Names::<C, D>::try_from_pairs(alloc, &[(1, "dos")])?;
-    let made = make(alloc, &mut map, row.call);
-    let wanted = if made.is_ok() {
-        row.after
-    } else {
-        &[(1, "dos")]
-    };
+    let is_refused = is_refused(alloc, &mut map, row.call);
+    let wanted = if is_refused { BEFORE } else { row.after };
     has_pairs(rt, map.as_borrowed(), wanted);
-    made?;
-    Ok(())
+    end(is_refused)
 }
+
+const BEFORE: &[(u32, &str)] = &[(1, "dos")];
 
 const ROWS: [Row<'static>; 9] = [
     Row {

@@ -1,9 +1,10 @@
 // Maps in two levels.
+use crate::refusal::end;
 use std::alloc::Global;
 use std::process::Abort;
 use std::test::Fail;
 use zv_map::{MutableZeroVecLike, ZeroMapKV};
-use zv_map2d::{Map2dError, Map2dOver};
+use zv_map2d::Map2dOver;
 use zv_ule::StrULE;
 
 type Of<'a, K> = <K as ZeroMapKV<'a>>::Container;
@@ -32,45 +33,22 @@ struct Row<'r> {
     values: &'r [u8],
 }
 
-// Makes a call that changes pairs, with the name "x".
-fn change<'a, C0, C1, D>(
-    alloc: Global,
-    map: &mut Names<'a, C0, C1, D>,
-    call: Call,
-) -> Result<(), Map2dError>
+// Makes a call, with the name "x" where it takes one, and tells whether it is refused.
+fn is_refused<'a, C0, C1, D>(alloc: Global, map: &mut Names<'a, C0, C1, D>, call: Call) -> bool
 where
     C0: MutableZeroVecLike<'a, u16>,
     C1: MutableZeroVecLike<'a, u16>,
     D: MutableZeroVecLike<'a, StrULE>,
 {
     match call {
-        Call::Insert(key0, key1) => drop(map.insert(alloc, &key0, &key1, &"x")?),
-        Call::Append(key0, key1) => drop(map.try_append(alloc, &key0, &key1, &"x")?),
-        Call::Remove(key0, key1) => drop(map.remove(alloc, &key0, &key1)?),
-        _ => {}
+        Call::Insert(key0, key1) => map.insert(alloc, &key0, &key1, &"x").err().is_some(),
+        Call::Append(key0, key1) => map.try_append(alloc, &key0, &key1, &"x").err().is_some(),
+        Call::Remove(key0, key1) => map.remove(alloc, &key0, &key1).err().is_some(),
+        Call::Room => map.reserve(alloc, 100).is_err(),
+        Call::RoomFor => map.reserve_for(alloc, 20, 20, 50, 10).is_err(),
+        Call::Own => map.make_owned(alloc).is_err(),
+        Call::Copy => map.clone(alloc).err().is_some(),
     }
-    Ok(())
-}
-
-// Makes a call.
-fn make<'a, C0, C1, D>(
-    alloc: Global,
-    map: &mut Names<'a, C0, C1, D>,
-    call: Call,
-) -> Result<(), Map2dError>
-where
-    C0: MutableZeroVecLike<'a, u16>,
-    C1: MutableZeroVecLike<'a, u16>,
-    D: MutableZeroVecLike<'a, StrULE>,
-{
-    match call {
-        Call::Room => map.reserve(alloc, 100)?,
-        Call::RoomFor => map.reserve_for(alloc, 20, 20, 50, 10)?,
-        Call::Own => map.make_owned(alloc)?,
-        Call::Copy => drop(map.clone(alloc)?),
-        _ => change(alloc, map, call)?,
-    }
-    Ok(())
 }
 
 // The map has these lists.
@@ -104,10 +82,9 @@ where
 {
     let mut map = Names::<'a, C0, C1, D>::new();
     map.insert(alloc, &1, &2, &"dos")?;
-    let made = make(alloc, &mut map, row.call);
-    has_lists(rt, &map, if made.is_ok() { row } else { &BEFORE });
-    made?;
-    Ok(())
+    let is_refused = is_refused(alloc, &mut map, row.call);
+    has_lists(rt, &map, if is_refused { &BEFORE } else { row });
+    end(is_refused)
 }
 
 const ROWS: [Row<'static>; 10] = [

@@ -1,4 +1,5 @@
 // Tables of code point ranges.
+use crate::refusal::end;
 use std::alloc::Global;
 use std::process::Abort;
 use std::test::Fail;
@@ -12,7 +13,7 @@ struct Row {
     after: &'static [u8],
 }
 
-const BEFORE: &[u8] = &[65, 0, 0, 0, 122, 0, 0, 0, 1, 0];
+const BEFORE: &[u8] = b"A\0\0\0z\0\0\0\x01\0";
 
 const ROWS: [Row; 4] = [
     // split in two
@@ -20,25 +21,21 @@ const ROWS: [Row; 4] = [
         first: 70,
         last: 80,
         value: 0,
-        after: &[
-            65, 0, 0, 0, 69, 0, 0, 0, 1, 0, 81, 0, 0, 0, 122, 0, 0, 0, 1, 0,
-        ],
+        after: b"A\0\0\0E\0\0\0\x01\0Q\0\0\0z\0\0\0\x01\0",
     },
     // a row behind it
     Row {
         first: 200,
         last: 201,
         value: 2,
-        after: &[
-            65, 0, 0, 0, 122, 0, 0, 0, 1, 0, 200, 0, 0, 0, 201, 0, 0, 0, 2, 0,
-        ],
+        after: b"A\0\0\0z\0\0\0\x01\0\xc8\0\0\0\xc9\0\0\0\x02\0",
     },
     // nothing is left
     Row {
         first: 0,
         last: 1_114_111,
         value: 0,
-        after: &[],
+        after: b"",
     },
     // the same table
     Row {
@@ -57,11 +54,9 @@ fn try_row(rt: &impl Abort, alloc: Global, row: &Row, is_owned: bool) -> Result<
         Props::parse(BEFORE)?
     };
     assert!(rt; row.first <= row.last && row.last <= 1_114_111);
-    let made = table.set(alloc, row.first, row.last, row.value);
-    let wanted = if made.is_ok() { row.after } else { BEFORE };
-    assert!(rt; table.as_bytes() == wanted);
-    made?;
-    Ok(())
+    let is_refused = table.set(alloc, row.first, row.last, row.value).is_err();
+    assert!(rt; table.as_bytes() == if is_refused { BEFORE } else { row.after });
+    end(is_refused)
 }
 
 #[test]

@@ -1,16 +1,18 @@
 // A frozen image of which one byte is changed is refused, or has what it stores.
-use crate::few::FROZEN;
+use crate::frozen::few::FROZEN;
 use std::alloc::Global;
 use std::process::Abort;
 use std::test::Fail;
 use zv_frozen::Frozen;
+use zv_map::FlexULE;
+use zv_map2d::ZeroMap2dBorrowed;
+use zv_ule::{SliceULE, StrULE};
 
-// Whether bytes are refused, or each pair that they thaw to is found with its value.
-fn is_honest(alloc: Global, bytes: &[u8]) -> Result<bool, Fail> {
-    let Ok(frozen) = Frozen::parse(bytes) else {
-        return Ok(true);
-    };
-    let map = frozen.thaw(alloc)?;
+// A map of texts that is borrowed.
+type Pairs<'m> = ZeroMap2dBorrowed<'m, FlexULE<StrULE>, FlexULE<StrULE>, FlexULE<SliceULE<u8>>>;
+
+// Whether a frozen image has these pairs and no others.
+fn has_pairs(frozen: &Frozen<'_>, map: Pairs<'_>) -> bool {
     let mut count = 0usize;
     for row in map.iter0() {
         let key0 = row.key0();
@@ -19,20 +21,24 @@ fn is_honest(alloc: Global, bytes: &[u8]) -> Result<bool, Fail> {
                 str::from_utf8(key0.as_bytes()),
                 str::from_utf8(key1.as_bytes()),
             ) else {
-                return Ok(false);
+                return false;
             };
             match frozen.get(key0, key1) {
-                Some(found) => {
-                    if found.as_bytes() != value.as_bytes() {
-                        return Ok(false);
-                    }
-                }
-                None => return Ok(false),
+                Some(found) if found.as_bytes() == value.as_bytes() => {}
+                _ => return false,
             }
             count = count.saturating_add(1);
         }
     }
-    Ok(count == frozen.len())
+    count == frozen.len()
+}
+
+// Whether bytes are refused, or each pair that they thaw to is found with its value.
+fn is_honest(alloc: Global, bytes: &[u8]) -> Result<bool, Fail> {
+    let Ok(frozen) = Frozen::parse(bytes) else {
+        return Ok(true);
+    };
+    Ok(has_pairs(&frozen, frozen.thaw(alloc)?.as_borrowed()))
 }
 
 #[test]

@@ -39,13 +39,13 @@ fn put(alloc: Global, map: &mut ImageMap<'static>, number: u16) -> Result<(), Fa
     Ok(())
 }
 
-// The map of the numbers below a count, each under its pair.
-fn map_of(alloc: Global, count: u16) -> Result<ImageMap<'static>, Fail> {
+// The frozen image of the numbers below a count, each under its pair, or why there is none.
+fn frozen_of(alloc: Global, count: u16) -> Result<Result<Vec<u8>, FreezeError>, Fail> {
     let mut map = ImageMap::new();
     for number in 0..count {
         put(alloc, &mut map, number)?;
     }
-    Ok(map)
+    Ok(freeze(alloc, &map))
 }
 
 // Whether a look-up that is counted answers as one that isn't. (A caller can't name the ledger of
@@ -88,8 +88,7 @@ fn is_asked(
 #[test]
 fn as_many_pairs_as_fit_are_found(rt: HostRuntime) -> Result<(), Fail> {
     let alloc = rt.alloc();
-    let map = map_of(alloc, MOST)?;
-    let bytes = freeze(alloc, &map)?;
+    let bytes = frozen_of(alloc, MOST)??;
     let frozen = Frozen::parse(&bytes)?;
     assert!(rt; frozen.len() == MOST as usize);
     for number in 0..16_384 {
@@ -100,8 +99,14 @@ fn as_many_pairs_as_fit_are_found(rt: HostRuntime) -> Result<(), Fail> {
 
 #[test]
 fn one_pair_more_is_too_large(rt: HostRuntime) -> Result<(), Fail> {
-    let map = map_of(rt.alloc(), MOST + 1)?;
-    let frozen = freeze(rt.alloc(), &map);
-    assert!(rt; matches!(frozen, Err(FreezeError::TooLarge)));
+    let frozen = frozen_of(rt.alloc(), MOST + 1)?;
+    assert!(&rt; matches!(frozen, Err(FreezeError::TooLarge)));
+    Ok(())
+}
+
+#[test]
+fn no_pairs_are_three_empty_parts(rt: HostRuntime) -> Result<(), Fail> {
+    let bytes = frozen_of(rt.alloc(), 0)??;
+    assert!(&rt; bytes.as_slice() == [0u8; 24].as_slice());
     Ok(())
 }

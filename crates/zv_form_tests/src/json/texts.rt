@@ -1,15 +1,14 @@
 // Texts, characters, and texts that are no JSON.
 ghost use Rattle.std.specs.Prelude.{◌≤◌};
 
-use crate::forms::Case::{Becomes, Refused, Same};
-use crate::forms::{Case, reads, refuses};
+use crate::json::Case::{Becomes, Refused, Same};
+use crate::json::{Case, long_text, reads_elements, reads_values, refuses};
 use std::alloc::Global;
 use std::process::Abort;
 use std::test::Fail;
 use zv_fixed::ZeroVec;
 use zv_json::JsonError;
-use zv_json::JsonError::{Range, Shape, Syntax};
-use zv_owned::VarZeroVec;
+use zv_json::JsonError::{Range, Shape, Syntax, TooLarge};
 use zv_ule::{Index8, Index16, Index32, StrULE};
 
 const CHARS: [Case<'_>; 11] = [
@@ -48,11 +47,25 @@ const BYTES: [Case<'_>; 6] = [
 #[test]
 fn texts_are_strings(rt: HostRuntime) -> Result<(), Fail> {
     let alloc = rt.alloc();
-    reads::<'_, ZeroVec<'_, char>>(&rt, alloc, &CHARS)?;
-    reads::<'_, VarZeroVec<'_, StrULE, Index8>>(&rt, alloc, &TEXTS)?;
-    reads::<'_, VarZeroVec<'_, StrULE, Index16>>(&rt, alloc, &TEXTS)?;
-    reads::<'_, VarZeroVec<'_, StrULE, Index32>>(&rt, alloc, &TEXTS)?;
-    reads::<'_, ZeroVec<'_, u8>>(&rt, alloc, &BYTES)
+    reads_values::<char>(&rt, alloc, &CHARS)?;
+    reads_elements::<StrULE, Index8>(&rt, alloc, &TEXTS)?;
+    reads_elements::<StrULE, Index16>(&rt, alloc, &TEXTS)?;
+    reads_elements::<StrULE, Index32>(&rt, alloc, &TEXTS)?;
+    reads_values::<u8>(&rt, alloc, &BYTES)
+}
+
+#[test]
+fn lists_are_too_large_after_their_items(rt: HostRuntime) -> Result<(), Fail> {
+    let alloc = rt.alloc();
+    let most = long_text(alloc, "[\"", 254, "\"]")?;
+    let above = long_text(alloc, "[\"", 255, "\"]")?;
+    let other = long_text(alloc, "[\"", 255, "\",7]")?;
+    let cases = [
+        Same(most.as_str()),
+        Refused(above.as_str(), TooLarge),
+        Refused(other.as_str(), Shape),
+    ];
+    reads_elements::<StrULE, Index8>(&rt, alloc, &cases)
 }
 
 // As many arrays in one another are refused so.

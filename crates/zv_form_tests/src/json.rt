@@ -1,14 +1,23 @@
 // What texts are read as, and written as again.
 ghost use Rattle.std.specs.Prelude.{IsTrue};
 
+mod elements;
+mod names;
+mod numbers;
+mod texts;
+
 use serde_json::Value;
 use std::alloc::Global;
 use std::process::Abort;
 use std::test::Fail;
+use zv_fixed::ZeroVec;
 use zv_forms::{JsonForm, ToJson};
-use zv_json::JsonError;
+use zv_json::{JsonError, JsonKind, JsonValue};
+use zv_owned::VarZeroVec;
+use zv_ule::{VarULE, VarZeroVecFormat};
 
 /// A text, and what comes of it.
+#[derive(Clone, Copy)]
 pub(crate) enum Case<'a> {
     /// It is read, and written as it stands.
     Same(&'a str),
@@ -70,7 +79,7 @@ pub(crate) fn refuses<'a, F: JsonForm<'a> + Drop>(
 pub(crate) fn reads<'a, F: JsonForm<'a> + Drop>(
     rt: &impl Abort,
     alloc: Global,
-    cases: &[Case<'a>],
+    cases: &[Case<'_>],
 ) -> Result<(), Fail>
     requires { IsTrue F.usable }
 {
@@ -82,4 +91,42 @@ pub(crate) fn reads<'a, F: JsonForm<'a> + Drop>(
         }
     }
     Ok(())
+}
+
+// What comes of each text is so, where it is read as a vector of such values.
+fn reads_values<T: JsonValue>(
+    rt: &impl Abort,
+    alloc: Global,
+    cases: &[Case<'_>],
+) -> Result<(), Fail>
+    requires { IsTrue T.usable }
+{
+    reads::<'_, ZeroVec<'_, T>>(rt, alloc, cases)
+}
+
+// What comes of each text is so, where it is read as a list of such elements.
+fn reads_elements<T: JsonKind + VarULE, F: VarZeroVecFormat>(
+    rt: &impl Abort,
+    alloc: Global,
+    cases: &[Case<'_>],
+) -> Result<(), Fail>
+    requires { IsTrue T.usable }
+{
+    reads::<'_, VarZeroVec<'_, T, F>>(rt, alloc, cases)
+}
+
+/// A text of so many letters, between two others.
+pub(crate) fn long_text(
+    alloc: Global,
+    before: &str,
+    count: usize,
+    behind: &str,
+) -> Result<String, Fail> {
+    let mut text = String::new(alloc);
+    text.push_str(before)?;
+    for _i in 0..count {
+        text.push('a')?;
+    }
+    text.push_str(behind)?;
+    Ok(text)
 }

@@ -1,13 +1,12 @@
 // Composed elements.
 
-use crate::forms::Case::{Becomes, Refused, Same};
-use crate::forms::{Case, reads};
+use crate::json::Case::{Becomes, Refused, Same};
+use crate::json::{Case, reads_elements, reads_values};
 use std::num::NonZeroU8;
 use std::test::Fail;
-use zv_fixed::{ZeroSliceULE, ZeroVec};
+use zv_fixed::ZeroSliceULE;
 use zv_json::JsonError::{Range, Shape, Wide};
 use zv_multi::{Tuple2VarULE, Tuple6VarULE, VarTupleULE};
-use zv_owned::VarZeroVec;
 use zv_ule::{Index16, NichedOption, SliceULE, StrULE};
 use zv_var::VarZeroSliceULE;
 
@@ -83,11 +82,11 @@ const LONG_RECORDS: [Case<'_>; 2] = [
 #[test]
 fn values_are_composed(rt: HostRuntime) -> Result<(), Fail> {
     let alloc = rt.alloc();
-    reads::<'_, ZeroVec<'_, (u32, char)>>(&rt, alloc, &PAIRS)?;
-    reads::<'_, ZeroVec<'_, (u8, i8, u16, i16, u32, bool)>>(&rt, alloc, &SIXES)?;
-    reads::<'_, ZeroVec<'_, Option<u8>>>(&rt, alloc, &OPTIONS)?;
-    reads::<'_, ZeroVec<'_, NichedOption<NonZeroU8, 1>>>(&rt, alloc, &NICHES)?;
-    reads::<'_, ZeroVec<'_, [u8; 3]>>(&rt, alloc, &ARRAYS)
+    reads_values::<(u32, char)>(&rt, alloc, &PAIRS)?;
+    reads_values::<(u8, i8, u16, i16, u32, bool)>(&rt, alloc, &SIXES)?;
+    reads_values::<Option<u8>>(&rt, alloc, &OPTIONS)?;
+    reads_values::<NichedOption<NonZeroU8, 1>>(&rt, alloc, &NICHES)?;
+    reads_values::<[u8; 3]>(&rt, alloc, &ARRAYS)
 }
 
 type Pair = Tuple2VarULE<StrULE, SliceULE<u8>, Index16>;
@@ -97,17 +96,17 @@ type Six = Tuple6VarULE<StrULE, StrULE, StrULE, StrULE, StrULE, ZeroSliceULE<u16
 #[test]
 fn records_are_arrays_of_their_fields(rt: HostRuntime) -> Result<(), Fail> {
     let alloc = rt.alloc();
-    reads::<'_, VarZeroVec<'_, Pair, Index16>>(&rt, alloc, &RECORDS)?;
-    reads::<'_, VarZeroVec<'_, Six, Index16>>(&rt, alloc, &LONG_RECORDS)
+    reads_elements::<Pair, Index16>(&rt, alloc, &RECORDS)?;
+    reads_elements::<Six, Index16>(&rt, alloc, &LONG_RECORDS)
 }
 
 #[test]
 fn elements_of_any_length_are_composed(rt: HostRuntime) -> Result<(), Fail> {
     let alloc = rt.alloc();
-    reads::<'_, VarZeroVec<'_, VarZeroSliceULE<StrULE, Index16>, Index16>>(&rt, alloc, &NESTED)?;
-    reads::<'_, VarZeroVec<'_, VarTupleULE<u16, StrULE>, Index16>>(&rt, alloc, &SIZED)?;
-    reads::<'_, VarZeroVec<'_, SliceULE<u8>, Index16>>(&rt, alloc, &ARRAYS_OF_ANY_LENGTH)?;
-    reads::<'_, VarZeroVec<'_, ZeroSliceULE<u8>, Index16>>(&rt, alloc, &ARRAYS_OF_ANY_LENGTH)
+    reads_elements::<VarZeroSliceULE<StrULE, Index16>, Index16>(&rt, alloc, &NESTED)?;
+    reads_elements::<VarTupleULE<u16, StrULE>, Index16>(&rt, alloc, &SIZED)?;
+    reads_elements::<SliceULE<u8>, Index16>(&rt, alloc, &ARRAYS_OF_ANY_LENGTH)?;
+    reads_elements::<ZeroSliceULE<u8>, Index16>(&rt, alloc, &ARRAYS_OF_ANY_LENGTH)
 }
 
 const ARRAYS_OF_ANY_LENGTH: [Case<'_>; 3] = [

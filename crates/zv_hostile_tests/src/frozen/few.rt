@@ -1,8 +1,9 @@
 // Few pairs: what is frozen, asked and thawed.
+use std::alloc::Global;
 use std::process::Abort;
 use std::test::Fail;
 use zv_frozen::{FreezeError, Frozen, PairKey, freeze};
-use zv_map2d::{ImageMap, parse_image};
+use zv_map2d::parse_image;
 use zv_ule::ZvArg;
 
 // The image of the pairs of "" and "ab" with 1, of "a" and "b" with 2, and of "ab" and "" with 3.
@@ -33,51 +34,63 @@ const STUCK: [u8; 63] = [
     0x00, 0x00, 0x00, 0x00, 0x00, 0x00, 0x03, 0x00, 0x01, 0x00, 0x02, 0x00, 0x01, 0x02, 0x03,
 ];
 
-// What a pair of texts has.
-fn asked<'f>(frozen: &'f Frozen<'_>, key0: &str, key1: &str) -> Option<&'f [u8]> {
-    match frozen.get(key0, key1) {
-        Some(value) => Some(value.as_bytes()),
-        None => None,
+// The frozen image of the map of an image, which thaws to the same map, or why there is none.
+fn frozen_of(
+    rt: &impl Abort,
+    alloc: Global,
+    image: &[u8],
+) -> Result<Result<Vec<u8>, FreezeError>, Fail> {
+    let map = parse_image(image)?;
+    let frozen = freeze(alloc, &map);
+    if let Ok(bytes) = &frozen {
+        assert!(rt; Frozen::parse(bytes)?.thaw(alloc)?.same(map.as_borrowed()));
+    }
+    Ok(frozen)
+}
+
+// What pairs of texts have.
+fn answers(rt: &impl Abort, frozen: &Frozen<'_>, pairs: &[(&str, &str, Option<u8>)]) {
+    for (key0, key1, wanted) in pairs {
+        match (frozen.get(key0, key1), wanted) {
+            (Some(value), Some(wanted)) => assert!(rt; value.as_bytes() == [*wanted].as_slice()),
+            (None, None) => {}
+            _ => panic!(rt; "{key0} {key1}"),
+        }
     }
 }
 
 #[test]
 fn each_pair_is_found(rt: HostRuntime) -> Result<(), Fail> {
-    let alloc = rt.alloc();
-    let map = parse_image(&IMAGE)?;
-    let bytes = freeze(alloc, &map)?;
-    assert!(rt; bytes.as_slice() == FROZEN.as_slice());
+    let bytes = frozen_of(&rt, rt.alloc(), &IMAGE)??;
+    assert!(&rt; bytes.as_slice() == FROZEN.as_slice());
     let frozen = Frozen::parse(&bytes)?;
-    assert!(rt; frozen.len() == 3);
-    assert!(rt; !frozen.is_empty());
-    assert!(rt; asked(&frozen, "", "ab") == Some([1u8].as_slice()));
-    assert!(rt; asked(&frozen, "a", "b") == Some([2u8].as_slice()));
-    assert!(rt; asked(&frozen, "ab", "") == Some([3u8].as_slice()));
-    assert!(rt; asked(&frozen, "", "").is_none());
-    assert!(rt; asked(&frozen, "a", "c").is_none());
-    assert!(rt; asked(&frozen, "abab", "").is_none());
-    assert!(rt; frozen.thaw(alloc)?.same(map.as_borrowed()));
+    assert!(&rt; frozen.len() == 3 && !frozen.is_empty());
+    let pairs = [
+        ("", "ab", Some(1)),
+        ("a", "b", Some(2)),
+        ("ab", "", Some(3)),
+        ("", "", None),
+        ("a", "c", None),
+        ("abab", "", None),
+    ];
+    answers(&rt, &frozen, &pairs);
     Ok(())
 }
 
 #[test]
 fn no_pair_is_found_in_the_empty_map(rt: HostRuntime) -> Result<(), Fail> {
-    let alloc = rt.alloc();
-    let map = ImageMap::new();
-    let bytes = freeze(alloc, &map)?;
-    assert!(rt; bytes.as_slice() == [0u8; 24].as_slice());
+    let bytes = frozen_of(&rt, rt.alloc(), &[0; 32])??;
+    assert!(&rt; bytes.as_slice() == [0u8; 24].as_slice());
     let frozen = Frozen::parse(&bytes)?;
-    assert!(rt; frozen.is_empty());
-    assert!(rt; asked(&frozen, "", "").is_none());
-    assert!(rt; frozen.thaw(alloc)?.same(map.as_borrowed()));
+    assert!(&rt; frozen.is_empty());
+    answers(&rt, &frozen, &[("", "", None)]);
     Ok(())
 }
 
 #[test]
 fn a_bucket_is_stuck(rt: HostRuntime) -> Result<(), Fail> {
-    let map = parse_image(&STUCK)?;
-    let refused = freeze(rt.alloc(), &map);
-    assert!(rt; matches!(refused, Err(FreezeError::NoPlace { bucket: 1 })));
+    let refused = frozen_of(&rt, rt.alloc(), &STUCK)?;
+    assert!(&rt; matches!(refused, Err(FreezeError::NoPlace { bucket: 1 })));
     Ok(())
 }
 

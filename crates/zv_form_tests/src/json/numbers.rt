@@ -1,7 +1,7 @@
 // Numbers at their bounds.
 
-use crate::forms::Case::{Refused, Same};
-use crate::forms::{Case, reads};
+use crate::json::Case::{Refused, Same};
+use crate::json::{Case, reads_values};
 use std::num::{NonZeroI8, NonZeroU8};
 use std::test::Fail;
 use zv_fixed::ZeroVec;
@@ -90,23 +90,23 @@ const NON_ZERO_I8: [Case<'_>; 3] = [
 #[test]
 fn numbers_without_a_sign_are_read_in_their_range(rt: HostRuntime) -> Result<(), Fail> {
     let alloc = rt.alloc();
-    reads::<'_, ZeroVec<'_, u8>>(&rt, alloc, &U8)?;
-    reads::<'_, ZeroVec<'_, u16>>(&rt, alloc, &U16)?;
-    reads::<'_, ZeroVec<'_, u32>>(&rt, alloc, &U32)?;
-    reads::<'_, ZeroVec<'_, u64>>(&rt, alloc, &U64)?;
-    reads::<'_, ZeroVec<'_, u128>>(&rt, alloc, &U128)?;
-    reads::<'_, ZeroVec<'_, NonZeroU8>>(&rt, alloc, &NON_ZERO_U8)
+    reads_values::<u8>(&rt, alloc, &U8)?;
+    reads_values::<u16>(&rt, alloc, &U16)?;
+    reads_values::<u32>(&rt, alloc, &U32)?;
+    reads_values::<u64>(&rt, alloc, &U64)?;
+    reads_values::<u128>(&rt, alloc, &U128)?;
+    reads_values::<NonZeroU8>(&rt, alloc, &NON_ZERO_U8)
 }
 
 #[test]
 fn numbers_with_a_sign_are_read_in_their_range(rt: HostRuntime) -> Result<(), Fail> {
     let alloc = rt.alloc();
-    reads::<'_, ZeroVec<'_, i8>>(&rt, alloc, &I8)?;
-    reads::<'_, ZeroVec<'_, i16>>(&rt, alloc, &I16)?;
-    reads::<'_, ZeroVec<'_, i32>>(&rt, alloc, &I32)?;
-    reads::<'_, ZeroVec<'_, i64>>(&rt, alloc, &I64)?;
-    reads::<'_, ZeroVec<'_, i128>>(&rt, alloc, &I128)?;
-    reads::<'_, ZeroVec<'_, NonZeroI8>>(&rt, alloc, &NON_ZERO_I8)
+    reads_values::<i8>(&rt, alloc, &I8)?;
+    reads_values::<i16>(&rt, alloc, &I16)?;
+    reads_values::<i32>(&rt, alloc, &I32)?;
+    reads_values::<i64>(&rt, alloc, &I64)?;
+    reads_values::<i128>(&rt, alloc, &I128)?;
+    reads_values::<NonZeroI8>(&rt, alloc, &NON_ZERO_I8)
 }
 
 #[test]
