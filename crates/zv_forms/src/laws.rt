@@ -21,7 +21,7 @@ ghost use Rattle.zv_ule.specs.Chunks.{chunks_fault, values_of};
 
 use zv_fixed::{ZeroSlice, ZeroVec};
 use zv_hashmap::{HashBytes, HashMapOver};
-use zv_json::{JsonAgain, JsonValue};
+use zv_json::{JsonAgain, JsonKind, JsonValue};
 use zv_map::laws::elements_are_valid;
 use zv_map::{KvSlice, ZeroVecSearch, ZvContainer};
 use zv_map1::MapOver;
@@ -78,6 +78,23 @@ pub fn maps_are_read_again<
     map.in_order();
     let _keys = map.keys();
     elements_are_valid(map.values());
+}
+
+/// What a map in one level whose keys have a fixed width is written as is read as a map with the
+/// same keys and values alike, or is too large for its lists.
+pub fn maps_of_values_are_read_again<
+    K: JsonValue + ZvOrd,
+    V: JsonAgain,
+    C: ZvContainer<K>,
+    D: ZvContainer<V>,
+>(map: &MapOver<K, V, C, D>)
+    ensures { (rule : MapRule) (d : Data) →
+        map_written ⟦<K as JsonKind>⟧.KEY ⟦<K as JsonKind>⟧.to_name ⟦<K as JsonKind>⟧.to_data
+        V.to_data map.now.pairs ≡ Some d → IsAgain (SameKeys V.Alike map.now.pairs)
+        (map_in rule K.cmp ⟦<K as JsonKind>⟧.of_name ⟦<K as JsonKind>⟧.of_data V.of_data
+        ⟦<K as JsonKind>⟧.KEY d) }
+{
+    maps_are_read_again(map);
 }
 
 /// What a map in two levels is written as is read as a map with the same keys and values alike, or
