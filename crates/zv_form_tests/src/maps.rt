@@ -26,6 +26,9 @@ const MAP: &[u8] = b"\
     \x0c\0\0\0\0\0\0\0\x01\0\0\0\x02\0\0\0\x03\0\0\0\
     \x10\0\0\0\0\0\0\0\x03\0\x03\0\x06\0unodostres";
 
+// The form of a map of no pairs.
+const NONE: &[u8] = &[0; 16];
+
 // Bytes that are no form of a map.
 const FAULTS: &[Fault<'_>] = &[
     // bad keys; bad values; both
@@ -49,6 +52,11 @@ const FAULTS: &[Fault<'_>] = &[
     // bad keys and a byte behind
     (
         b"\x03\0\0\0\0\0\0\0\x01\0\0\x03\0\0\0\0\0\0\0\x01\0aa",
+        FormError::Frame,
+    ),
+    // bad keys, and a second length past the bytes
+    (
+        b"\x03\0\0\0\0\0\0\0\x01\0\0\x04\0\0\0\0\0\0\0\x01\0a",
         FormError::Frame,
     ),
     // a key without a value; keys that fall; both
@@ -116,7 +124,7 @@ where
     C: MutableZeroVecLike<'a, u32> + OneLayout<u32>,
     D: MutableZeroVecLike<'a, StrULE> + OneLayout<StrULE>,
 {
-    is_read::<Names<C, D>>(rt, alloc, &[MAP, &[0; 16]], FAULTS)?;
+    is_read::<Names<C, D>>(rt, alloc, &[(MAP, MAP), (NONE, NONE)], FAULTS)?;
     let pairs = [(3, "tres"), (1, "uno"), (2, "dos")];
     let map = Names::<C, D>::try_from_pairs(alloc, &pairs)?;
     framed::is_written(rt, alloc, &map, MAP)

@@ -2,7 +2,7 @@
 // proof about the containers of a kind takes half a minute.
 
 use crate::framed::errors::{NO_TEXTS, SHORT_NUMBER, ZERO_KEY};
-use crate::framed::{Fault, is_written};
+use crate::framed::{Fault, are_just};
 use crate::json::is_text;
 use std::alloc::Global;
 use std::num::NonZeroU8;
@@ -29,16 +29,23 @@ const MAP2D: &[u8] = b"\
     \x06\0\0\0\0\0\0\0\x01\0\x02\0\x03\0\
     \x10\0\0\0\0\0\0\0\x03\0\x03\0\x06\0unodostres";
 
+// The form of a map of no rows.
+const NONE: &[u8] = &[0; 32];
+
 // A map that is read where it stands is written as it was, and no front of it is one.
-fn have_frames<'a, C0, C1, D>(rt: &impl Abort, alloc: Global) -> Result<(), Fail>
+fn have_frames<'a, C0, C1, D>(
+    rt: &impl Abort,
+    alloc: Global,
+    forms: &[&'a [u8]],
+) -> Result<(), Fail>
 where
     C0: MutableZeroVecLike<'a, u32> + OneLayout<u32>,
     C1: MutableZeroVecLike<'a, u16> + OneLayout<u16>,
     D: MutableZeroVecLike<'a, StrULE> + OneLayout<StrULE>,
 {
-    for bytes in [MAP2D, &[0; 32]] {
+    for bytes in forms {
         let map = Rows::<'a, C0, C1, D>::parse_framed(bytes)?;
-        is_written(rt, alloc, &map, bytes)?;
+        are_just(rt, &map.to_framed_bytes(alloc)?, bytes);
         for end in 0..bytes.len() {
             let refusal = Rows::<'a, C0, C1, D>::parse_framed(&bytes[..end]).err();
             assert!(rt; refusal == Some(FormError::Frame));
@@ -46,7 +53,8 @@ where
     }
     let triples = [(2, 3, "tres"), (1, 1, "uno"), (2, 2, "dos")];
     let map = Rows::<'a, C0, C1, D>::try_from_triples(alloc, &triples)?;
-    is_written(rt, alloc, &map, MAP2D)
+    are_just(rt, &map.to_framed_bytes(alloc)?, MAP2D);
+    Ok(())
 }
 
 // Texts, and what the maps are written as that they are read as, or why they are none.
@@ -103,7 +111,8 @@ where
 {
     let mut map = Map2dOver::<'a, u16, u16, StrULE, C, C, D>::new();
     map.insert(alloc, &1, &2, &"three")?;
-    is_written(rt, alloc, &map, THREE)
+    are_just(rt, &map.to_framed_bytes(alloc)?, THREE);
+    Ok(())
 }
 
 fn have_both<'a, C0, C1, D>(rt: &impl Abort, alloc: Global) -> Result<(), Fail>
@@ -112,7 +121,7 @@ where
     C1: MutableZeroVecLike<'a, u16> + OneLayout<u16>,
     D: MutableZeroVecLike<'a, StrULE> + OneLayout<StrULE>,
 {
-    have_frames::<C0, C1, D>(rt, alloc)?;
+    have_frames::<C0, C1, D>(rt, alloc, &[MAP2D, NONE])?;
     have_texts::<C0, C1, D>(rt, alloc)?;
     is_inserted::<C1, D>(rt, alloc)
 }
@@ -228,6 +237,28 @@ const FAULTS: &[Fault<'_>] = &[
     (
         b"\x01\0\0\0\0\0\0\0\x01\x04\0\0\0\0\0\0\0\x01\0\0\0\
         \x01\0\0\0\0\0\0\0\x01\x03\0\0\0\0\0\0\0\x01\0a\0",
+        FormError::Frame,
+    ),
+    // a bad first key, a joiner that is no numbers, a value that is none, and a byte behind each; a
+    // bad first key, and a fourth length past the bytes
+    (
+        b"\x01\0\0\0\0\0\0\0\0\x04\0\0\0\0\0\0\0\x01\0\0\0\
+        \x01\0\0\0\0\0\0\0\x01\x03\0\0\0\0\0\0\0\x01\0a\0",
+        FormError::Frame,
+    ),
+    (
+        b"\x01\0\0\0\0\0\0\0\x01\x03\0\0\0\0\0\0\0\x01\0\0\
+        \x01\0\0\0\0\0\0\0\x01\x03\0\0\0\0\0\0\0\x01\0a\0",
+        FormError::Frame,
+    ),
+    (
+        b"\x01\0\0\0\0\0\0\0\x01\x04\0\0\0\0\0\0\0\x01\0\0\0\
+        \x01\0\0\0\0\0\0\0\x01\x03\0\0\0\0\0\0\0\x01\0\xff\0",
+        FormError::Frame,
+    ),
+    (
+        b"\x01\0\0\0\0\0\0\0\0\x04\0\0\0\0\0\0\0\x01\0\0\0\
+        \x01\0\0\0\0\0\0\0\x01\x04\0\0\0\0\0\0\0\x01\0a",
         FormError::Frame,
     ),
 ];

@@ -1,17 +1,16 @@
 // Hash tables in either form. What is said of them are functions of any containers, since a proof
 // about the containers of a kind takes half a minute.
 
-use crate::framed;
 use crate::framed::errors::{SHORT_NUMBER, SHORT_PAIR};
-use crate::framed::{Fault, is_read};
-use crate::json::Case::{Refused, Same};
-use crate::json::{Case, is_written, reads};
+use crate::framed::{Fault, are_just};
+use crate::json::is_text;
 use std::alloc::Global;
 use std::process::Abort;
 use std::test::Fail;
-use zv_forms::JsonForm;
-use zv_framed::{FormError, OneLayout};
+use zv_forms::{JsonForm, ToJson};
+use zv_framed::{FormError, Framed, OneLayout};
 use zv_hashmap::HashMapOver;
+use zv_json::JsonError;
 use zv_json::JsonError::{Shape, Wide};
 use zv_map::{MutableZeroVecLike, ZeroMapKV};
 use zv_ule::StrULE;
@@ -57,29 +56,77 @@ const FAULTS: &[Fault<'_>] = &[
     ),
     // a table of no keys and a byte behind
     (&[0; 25], FormError::Frame),
+    // displacements that are none, keys that are none, and a byte behind each; keys that are none,
+    // and a third length past the bytes
+    (
+        b"\x07\0\0\0\0\0\0\0\0\0\0\0\0\0\0\0\0\0\0\0\0\0\0\0\0\0\0\0\0\0\0\0",
+        FormError::Frame,
+    ),
+    (
+        b"\0\0\0\0\0\0\0\0\x03\0\0\0\0\0\0\0\x01\0\0\0\0\0\0\0\0\0\0\0",
+        FormError::Frame,
+    ),
+    (
+        b"\0\0\0\0\0\0\0\0\x03\0\0\0\0\0\0\0\x01\0\0\x04\0\0\0\0\0\0\0\x01\0a",
+        FormError::Frame,
+    ),
 ];
 
-// Texts of tables.
-const TEXTS: [Case<'_>; 8] = [
-    Same(TEXT),
-    Same("[[],[],[]]"),
-    Refused("[[\"a\"],[[\"b\",1]]]", Shape),
-    Refused("[[[0,0]],[1],[]]", Shape),
-    Refused("[[],[1],[\"a\"]]", Shape),
-    Refused("{}", Shape),
-    Refused("[[],[]]", Shape),
-    // the vectors are read before their counts are compared
-    Refused("[[],[1.5],[]]", Wide),
-];
+// The form of a table of no keys.
+const NONE: &[u8] = &[0; 24];
 
-// They are read and written as bytes, and as texts.
-fn are_read<'a, C, D>(rt: &impl Abort, alloc: Global) -> Result<(), Fail>
+// A table that is read where it stands is written as it was, and no front of it is one. None of the
+// cases is one.
+fn have_frames<'a, C, D>(
+    rt: &impl Abort,
+    alloc: Global,
+    forms: &[&'a [u8]],
+    cases: &[Fault<'a>],
+) -> Result<(), Fail>
 where
     C: MutableZeroVecLike<'a, u32> + OneLayout<u32>,
     D: MutableZeroVecLike<'a, StrULE> + OneLayout<StrULE>,
 {
-    is_read::<Names<'a, C, D>>(rt, alloc, &[TABLE, &[0; 24]], FAULTS)?;
-    reads::<'_, Names<'a, C, D>>(rt, alloc, &TEXTS)?;
+    for bytes in forms {
+        let table = Names::<'a, C, D>::parse_framed(bytes)?;
+        are_just(rt, &table.to_framed_bytes(alloc)?, bytes);
+        for end in 0..bytes.len() {
+            let refusal = Names::<'a, C, D>::parse_framed(&bytes[..end]).err();
+            assert!(rt; refusal == Some(FormError::Frame));
+        }
+    }
+    for (bytes, error) in cases {
+        let refusal = Names::<'a, C, D>::parse_framed(bytes).err();
+        assert!(rt; refusal == Some(*error), "{error}");
+    }
+    Ok(())
+}
+
+// Texts, and what the tables are written as that they are read as, or why they are none.
+const TEXTS: [(&str, Result<&str, JsonError>); 8] = [
+    (TEXT, Ok(TEXT)),
+    ("[[],[],[]]", Ok("[[],[],[]]")),
+    ("[[\"a\"],[[\"b\",1]]]", Err(Shape)),
+    ("[[[0,0]],[1],[]]", Err(Shape)),
+    ("[[],[1],[\"a\"]]", Err(Shape)),
+    ("{}", Err(Shape)),
+    ("[[],[]]", Err(Shape)),
+    // the vectors are read before their counts are compared
+    ("[[],[1.5],[]]", Err(Wide)),
+];
+
+// Tables are arrays of their vectors.
+fn have_texts<'a, C, D>(rt: &impl Abort, alloc: Global) -> Result<(), Fail>
+where
+    C: MutableZeroVecLike<'a, u32>,
+    D: MutableZeroVecLike<'a, StrULE>,
+{
+    for (text, wanted) in TEXTS {
+        match Names::<'a, C, D>::from_json_text(alloc, text) {
+            Ok(table) => is_text(rt, alloc, &table.to_json(alloc)?, wanted.unwrap_or(""))?,
+            Err(error) => assert!(rt; wanted == Err(error), "{text}"),
+        }
+    }
     let table = Names::<'a, C, D>::from_json_text(alloc, TEXT)?;
     let Some(name) = table.get(&0) else {
         panic!(rt; "the key is there");
@@ -96,8 +143,8 @@ where
     D: MutableZeroVecLike<'a, StrULE> + OneLayout<StrULE>,
 {
     let table = Names::<'a, C, D>::try_from_pairs(alloc, &[(0, "a"), (1, "b"), (2, "c")])?;
-    framed::is_written(rt, alloc, &table, TABLE)?;
-    is_written(rt, alloc, &table, TEXT)
+    are_just(rt, &table.to_framed_bytes(alloc)?, TABLE);
+    is_text(rt, alloc, &table.to_json(alloc)?, TEXT)
 }
 
 fn have_both<'a, C, D>(rt: &impl Abort, alloc: Global) -> Result<(), Fail>
@@ -105,7 +152,8 @@ where
     C: MutableZeroVecLike<'a, u32> + OneLayout<u32>,
     D: MutableZeroVecLike<'a, StrULE> + OneLayout<StrULE>,
 {
-    are_read::<C, D>(rt, alloc)?;
+    have_frames::<C, D>(rt, alloc, &[TABLE, NONE], FAULTS)?;
+    have_texts::<C, D>(rt, alloc)?;
     is_built::<C, D>(rt, alloc)
 }
 

@@ -1,14 +1,12 @@
 // Framed forms of lists.
 
 use crate::framed::errors::{NO_TEXTS, ODD_BYTE};
-use crate::framed::{Fault, is_read, is_rewritten, is_written};
-use std::alloc::Global;
-use std::process::Abort;
+use crate::framed::{Fault, is_read, is_written};
 use std::test::Fail;
 use zv_fixed::ZeroVec;
 use zv_framed::FormError;
 use zv_owned::{VarZeroVec, VarZeroVecOwned};
-use zv_ule::{Index8, Index16, Index32, StrULE, VarZeroVecFormat};
+use zv_ule::{Index8, Index16, Index32, StrULE};
 
 // The form of a list of no elements.
 const NONE: &[u8] = &[0; 8];
@@ -32,7 +30,7 @@ const NO_NUMBERS: &[Fault<'_>] = &[
 #[test]
 fn of_numbers(rt: HostRuntime) -> Result<(), Fail> {
     let alloc = rt.alloc();
-    is_read::<ZeroVec<'_, u16>>(&rt, alloc, &[NUMBERS, NONE], NO_NUMBERS)?;
+    is_read::<ZeroVec<'_, u16>>(&rt, alloc, &[(NUMBERS, NUMBERS), (NONE, NONE)], NO_NUMBERS)?;
     let numbers = ZeroVec::<u16>::alloc_from_slice(alloc, &[1, 258])?;
     is_written(&rt, alloc, &numbers, NUMBERS)
 }
@@ -45,37 +43,48 @@ const OTHERS: &[Fault<'_>] = &[
     (b"\x01\0\0\0\0\0\0\0\0", NO_TEXTS),
     (b"\x03\0\0\0\0\0\0\0\x01\0\xff", NO_TEXTS),
     (b"\x03\0\0\0\0\0\0\0\x01\0a\0", FormError::Frame),
+    // a text that is none, and a byte behind; that, and a length past the bytes
+    (b"\x03\0\0\0\0\0\0\0\x01\0\xffa", FormError::Frame),
+    (b"\x04\0\0\0\0\0\0\0\x01\0\xff", FormError::Frame),
 ];
 
-// The form of texts is read, and none of the others. An empty list may have a count and bytes
-// behind it; it is written with none.
-fn texts_are_read<F: VarZeroVecFormat>(
-    rt: &impl Abort,
-    alloc: Global,
-    texts: &[u8],
-    empty: &[u8],
-    others: &[Fault<'_>],
-) -> Result<(), Fail> {
-    is_read::<VarZeroVec<'_, StrULE, F>>(rt, alloc, &[texts, NONE], others)?;
-    is_rewritten::<VarZeroVec<'_, StrULE, F>>(rt, alloc, empty, NONE)
-}
+// The same texts in the other two formats.
+const TEXTS8: &[u8] = b"\x05\0\0\0\0\0\0\0\x02\x01abc";
 
+const TEXTS32: &[u8] = b"\x0b\0\0\0\0\0\0\0\x02\0\0\0\x01\0\0\0abc";
+
+// An empty list may have a count and bytes behind it; it is written with none.
 #[test]
 fn of_texts(rt: HostRuntime) -> Result<(), Fail> {
     let alloc = rt.alloc();
-    texts_are_read::<Index8>(
+    is_read::<VarZeroVec<'_, StrULE, Index8>>(
         &rt,
         alloc,
-        b"\x05\0\0\0\0\0\0\0\x02\x01abc",
-        b"\x01\0\0\0\0\0\0\0\0",
+        &[
+            (TEXTS8, TEXTS8),
+            (NONE, NONE),
+            (b"\x01\0\0\0\0\0\0\0\0", NONE),
+        ],
         &[],
     )?;
-    texts_are_read::<Index16>(&rt, alloc, TEXTS, b"\x02\0\0\0\0\0\0\0\0\0", OTHERS)?;
-    texts_are_read::<Index32>(
+    is_read::<VarZeroVec<'_, StrULE, Index16>>(
         &rt,
         alloc,
-        b"\x0b\0\0\0\0\0\0\0\x02\0\0\0\x01\0\0\0abc",
-        b"\x05\0\0\0\0\0\0\0\0\0\0\0\x07",
+        &[
+            (TEXTS, TEXTS),
+            (NONE, NONE),
+            (b"\x02\0\0\0\0\0\0\0\0\0", NONE),
+        ],
+        OTHERS,
+    )?;
+    is_read::<VarZeroVec<'_, StrULE, Index32>>(
+        &rt,
+        alloc,
+        &[
+            (TEXTS32, TEXTS32),
+            (NONE, NONE),
+            (b"\x05\0\0\0\0\0\0\0\0\0\0\0\x07", NONE),
+        ],
         &[],
     )
 }
