@@ -6,7 +6,7 @@ use std::num::NonZeroU8;
 use std::test::Fail;
 use zv_fixed::ZeroSliceULE;
 use zv_json::JsonError::{Range, Shape, Wide};
-use zv_multi::{Tuple2VarULE, Tuple6VarULE, VarTupleULE};
+use zv_multi::{Tuple2VarULE, Tuple3VarULE, Tuple4VarULE, Tuple5VarULE, Tuple6VarULE, VarTupleULE};
 use zv_ule::{Index16, NichedOption, SliceULE, StrULE};
 use zv_var::VarZeroSliceULE;
 
@@ -19,6 +19,45 @@ const PAIRS: [Case<'_>; 7] = [
     // the first part is read first
     Refused("[[4294967296,7]]", Range),
     Refused("[[1.5,\"ab\"]]", Wide),
+];
+
+const THREES: [Case<'_>; 5] = [
+    Same("[[0,0,0],[255,65535,4294967295]]"),
+    Refused("[[1,2]]", Shape),
+    Refused("[[1,2,3,4]]", Shape),
+    Refused("[[1,\"2\",3]]", Shape),
+    Refused("[[1,2,4294967296]]", Range),
+];
+
+// Arrays of two numbers, of two, of two, and of two characters.
+const FOURS: [Case<'_>; 14] = [
+    Same("[[[0,65535],[0,4294967295],[0,18446744073709551615],[\"a\",\"ω\"]]]"),
+    Refused("[[[1,2],[3,4],[5,6]]]", Shape),
+    Refused("[[[1,2],[3,4],[5,6],[\"a\",\"b\"],[]]]", Shape),
+    Refused("[[[1],[3,4],[5,6],[\"a\",\"b\"]]]", Shape),
+    Refused("[[[1,2],[3,4,4],[5,6],[\"a\",\"b\"]]]", Shape),
+    Refused("[[[1,2],[3,4],[5],[\"a\",\"b\"]]]", Shape),
+    Refused("[[[1,2],[3,4],[5,6],[\"a\",\"b\",\"c\"]]]", Shape),
+    Refused("[[[1,65536],[3,4],[5,6],[\"a\",\"b\"]]]", Range),
+    Refused("[[[1,2],[-1,4],[5,6],[\"a\",\"b\"]]]", Range),
+    Refused(
+        "[[[1,2],[3,4],[5,18446744073709551616],[\"a\",\"b\"]]]",
+        Wide,
+    ),
+    Refused("[[[1,2],[3,4],[5,6],[\"a\",\"bc\"]]]", Range),
+    Refused("[[[1,2],[3,4],[5,6],[7,\"b\"]]]", Shape),
+    Refused("[[[1,2],{},[5,6],[\"a\",\"b\"]]]", Shape),
+    // the first array is read before the second is counted
+    Refused("[[[65536,2],[3],[5,6],[\"a\",\"b\"]]]", Range),
+];
+
+const FIVES: [Case<'_>; 5] = [
+    Same("[[1,2,3,18446744073709551615,\"ω\"]]"),
+    Refused("[[1,2,3,4]]", Shape),
+    Refused("[[1,2,3,4,\"a\",true]]", Shape),
+    Refused("[[1,2,3,4,\"\"]]", Range),
+    // the fourth part is read before the fifth
+    Refused("[[1,2,3,-1,5]]", Range),
 ];
 
 const SIXES: [Case<'_>; 2] = [
@@ -74,6 +113,30 @@ const RECORDS: [Case<'_>; 7] = [
     Refused("[[\"a\",[256]]]", Range),
 ];
 
+const RECORDS3: [Case<'_>; 5] = [
+    Same("[[\"a\",[98],[65535]],[\"\",[],[]]]"),
+    Refused("[[\"a\",[98]]]", Shape),
+    Refused("[[\"a\",[98],[1],2]]", Shape),
+    Refused("[[\"a\",98,[1]]]", Shape),
+    Refused("[[\"a\",[98],[65536]]]", Range),
+];
+
+const RECORDS4: [Case<'_>; 5] = [
+    Same("[[\"a\",\"\",\"ω\",[255]],[\"\",\"\",\"\",[]]]"),
+    Refused("[[\"a\",\"b\",\"c\"]]", Shape),
+    Refused("[[\"a\",\"b\",\"c\",[1],2]]", Shape),
+    Refused("[[\"a\",\"b\",7,[1]]]", Shape),
+    Refused("[[\"a\",\"b\",\"c\",[256]]]", Range),
+];
+
+const RECORDS5: [Case<'_>; 5] = [
+    Same("[[\"a\",\"b\",\"\",\"ω\",[1,65535]]]"),
+    Refused("[[\"a\",\"b\",\"c\",\"d\"]]", Shape),
+    Refused("[[\"a\",\"b\",\"c\",\"d\",[1],2]]", Shape),
+    Refused("[[\"a\",\"b\",\"c\",[\"d\"],[1]]]", Shape),
+    Refused("[[\"a\",\"b\",\"c\",\"d\",[65536]]]", Range),
+];
+
 const LONG_RECORDS: [Case<'_>; 2] = [
     Same("[[\"a\",\"b\",\"c\",\"d\",\"e\",[1,65535]]]"),
     Refused("[[\"a\",\"b\",\"c\",\"d\",\"e\",[65536]]]", Range),
@@ -89,6 +152,16 @@ fn values_are_composed(rt: HostRuntime) -> Result<(), Fail> {
     reads_values::<[u8; 3]>(&rt, alloc, &ARRAYS)
 }
 
+type Arrays = ([u16; 2], [u32; 2], [u64; 2], [char; 2]);
+
+#[test]
+fn tuples_are_arrays_of_their_parts(rt: HostRuntime) -> Result<(), Fail> {
+    let alloc = rt.alloc();
+    reads_values::<(u8, u16, u32)>(&rt, alloc, &THREES)?;
+    reads_values::<Arrays>(&rt, alloc, &FOURS)?;
+    reads_values::<(u8, u16, u32, u64, char)>(&rt, alloc, &FIVES)
+}
+
 type Pair = Tuple2VarULE<StrULE, SliceULE<u8>, Index16>;
 
 type Six = Tuple6VarULE<StrULE, StrULE, StrULE, StrULE, StrULE, ZeroSliceULE<u16>, Index16>;
@@ -98,6 +171,20 @@ fn records_are_arrays_of_their_fields(rt: HostRuntime) -> Result<(), Fail> {
     let alloc = rt.alloc();
     reads_elements::<Pair, Index16>(&rt, alloc, &RECORDS)?;
     reads_elements::<Six, Index16>(&rt, alloc, &LONG_RECORDS)
+}
+
+type Three = Tuple3VarULE<StrULE, SliceULE<u8>, ZeroSliceULE<u16>, Index16>;
+
+type Four = Tuple4VarULE<StrULE, StrULE, StrULE, SliceULE<u8>, Index16>;
+
+type Five = Tuple5VarULE<StrULE, StrULE, StrULE, StrULE, ZeroSliceULE<u16>, Index16>;
+
+#[test]
+fn records_have_three_to_five_fields(rt: HostRuntime) -> Result<(), Fail> {
+    let alloc = rt.alloc();
+    reads_elements::<Three, Index16>(&rt, alloc, &RECORDS3)?;
+    reads_elements::<Four, Index16>(&rt, alloc, &RECORDS4)?;
+    reads_elements::<Five, Index16>(&rt, alloc, &RECORDS5)
 }
 
 #[test]
