@@ -84,6 +84,7 @@ fn fill(text: &mut Vec<u8>, pieces: &str) -> Result<(), NoMemory> {
             "PAIR" => PAIR,
             "BRITISH" => BRITISH,
             "WIDE_PAIR" => WIDE_PAIR,
+            "FROZEN_PAIR" => FROZEN_PAIR,
             _ => piece,
         };
         text.extend_from_slice(piece.as_bytes())?;
@@ -131,7 +132,12 @@ const WIDE_PAIR: &str = "\
     05000000000000000100000062\
     05000000000000000100000001";
 
-const FORMS: [Form; 11] = [
+// `PAIR`, frozen.
+const FROZEN_PAIR: &str = "\
+    08000000000000000000000001000000\
+    080000000000000001000100000061620300000000000000010001";
+
+const FORMS: [Form; 14] = [
     Form {
         name: "an edit of 28 locales",
         words: "edit",
@@ -212,6 +218,33 @@ const FORMS: [Form; 11] = [
         writes: "rows 2 pairs 2 bytes 66 sum 862\n",
         status: Status::Done,
         reads: 0,
+    },
+    Form {
+        name: "a pair that is frozen",
+        words: "freeze",
+        // 92 bytes.
+        input: "x%PAIR%\n",
+        writes: "frozen x%FROZEN_PAIR%\n",
+        status: Status::Done,
+        reads: 3,
+    },
+    Form {
+        name: "a pair that is asked",
+        words: "ask x61 x62",
+        // 88 bytes.
+        input: "x%FROZEN_PAIR%\n",
+        writes: "some x01\n",
+        status: Status::Done,
+        reads: 3,
+    },
+    Form {
+        name: "a pair that is thawed",
+        words: "thaw",
+        // 88 bytes.
+        input: "x%FROZEN_PAIR%\n",
+        writes: "image x%PAIR%\n",
+        status: Status::Done,
+        reads: 3,
     },
     Form {
         name: "a bad line",
