@@ -8,7 +8,7 @@ use zv_runs::{NO_WIDE_LIST, PAIR, join};
 // later ones do too.
 const MALFORMED: [Refusals; 8] = [
     (
-        "error frame\n",
+        "frame",
         "\
         no bytes: \n\
         a length that is cut: 00000000000000\n\
@@ -19,7 +19,7 @@ const MALFORMED: [Refusals; 8] = [
         a part that is longer than all bytes: ffffffffffffff7f NONE NONE NONE",
     ),
     (
-        "error length\n",
+        "length",
         "\
         ends of three bytes: A THREE_BYTES B B\n\
         ends of five bytes: A 05000000000000000100000000 B B\n\
@@ -28,7 +28,7 @@ const MALFORMED: [Refusals; 8] = [
             NONE B",
     ),
     (
-        "error parse\n",
+        "parse",
         "\
         first keys of one byte: 010000000000000001 AT_1 B B\n\
         first keys whose starts are cut: 03000000000000000200ff AT_1_2 A_B A_B\n\
@@ -41,7 +41,7 @@ const MALFORMED: [Refusals; 8] = [
         a value list that is cut, and no first keys: NONE AT_1 B 010000000000000001",
     ),
     (
-        "error keys0joiner\n",
+        "keys0joiner",
         "\
         first keys without ends, and no pairs: A NONE NONE NONE\n\
         ends without first keys: NONE AT_1 B B\n\
@@ -50,7 +50,7 @@ const MALFORMED: [Refusals; 8] = [
         first keys that descend, a first end of 0, counts that disagree: B_A AT_0 B NONE",
     ),
     (
-        "error keys1values\n",
+        "keys1values",
         "\
         second keys without values: A AT_1 B NONE\n\
         values without second keys, in no row: NONE NONE NONE B\n\
@@ -58,7 +58,7 @@ const MALFORMED: [Refusals; 8] = [
         an end of 0 and no values: A AT_0 B NONE",
     ),
     (
-        "error joinerorder\n",
+        "joinerorder",
         "\
         a first end of 0: A_B AT_0_1 B B\n\
         two equal ends: A_B AT_1_1 B B\n\
@@ -67,7 +67,7 @@ const MALFORMED: [Refusals; 8] = [
         equal ends that are not the last second key's: A_B AT_2_2 A_B_C A_B_C",
     ),
     (
-        "error joinerend\n",
+        "joinerend",
         "\
         second keys in no row: NONE NONE B B\n\
         an end before the last second key: A AT_1 A_B A_B\n\
@@ -75,7 +75,7 @@ const MALFORMED: [Refusals; 8] = [
         ends before the last second key, and first keys that descend: B_A AT_1_2 A_B_C A_B_C",
     ),
     (
-        "error keyorder\n",
+        "keyorder",
         "\
         first keys that descend: B_A AT_1_2 A_A A_B\n\
         two equal first keys: A_A AT_1_2 A_B A_B\n\
@@ -89,21 +89,42 @@ const MALFORMED: [Refusals; 8] = [
 // An image as it stands, and behind a head of narrow lists.
 const HEADS: &[&str] = &["", NO_WIDE_LIST];
 
-const READINGS: [Reading; 3] = [
+// The same as the second line, behind the image of the empty map.
+const OVER_NO_PAIRS: &[&str] = &[
+    "0000000000000000000000000000000000000000000000000000000000000000\nx",
+    "0000000000000000000000000000000000000000000000000000000000000000\nxffffffffffffffff101010",
+];
+
+const READINGS: [Reading; 5] = [
     Reading {
         words: "edit",
         heads: HEADS,
         lines: "\nget x61 x62\nput x61 x62 x01\n",
+        told: "error ",
     },
     Reading {
         words: "look x61 x62",
         heads: HEADS,
         lines: "\n",
+        told: "error ",
     },
     Reading {
         words: "locale",
         heads: HEADS,
         lines: "\nask x61 x656e\n",
+        told: "error ",
+    },
+    Reading {
+        words: "freeze",
+        heads: HEADS,
+        lines: "\n",
+        told: "error ",
+    },
+    Reading {
+        words: "layers",
+        heads: OVER_NO_PAIRS,
+        lines: "\nx00\n",
+        told: "error layer 2 ",
     },
 ];
 
@@ -122,7 +143,7 @@ fn each_front_of_an_image_is_refused(rt: HostRuntime) -> Result<(), Fail> {
         let whole = join(rt.alloc(), &["x", head, PAIR])?;
         for len in (1..whole.len()).step_by(2) {
             let front = whole.get(..len).unwrap_or(&[]);
-            try_input(&rt, rt.alloc(), &words, front, "a front", "error frame\n")?;
+            try_input(&rt, rt.alloc(), &words, front, "a front", b"error frame\n")?;
         }
     }
     Ok(())

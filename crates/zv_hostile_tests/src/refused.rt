@@ -1,4 +1,4 @@
-// Inputs whose first line is refused, before its other lines are answered.
+// Inputs of which a line of bytes is refused, before other lines are answered.
 use crate::forms::words_in;
 use std::alloc::Global;
 use std::process::Abort;
@@ -6,15 +6,17 @@ use std::test::Fail;
 use zv_runs::{answer_of, join, memory_devices};
 use zv_tool::{Status, Words};
 
-/// What is written where a first line is refused, and a text with a line for each that is refused
-/// so: what it is, and its parts, each by its name or in hexadecimal.
+/// The cause for which bytes are refused, and a text with a line for each that are refused so: what
+/// they are, and their parts, each by its name or in hexadecimal.
 pub type Refusals = (&'static str, &'static str);
 
-/// A form of the program: its words, what may stand before the parts, and what stands behind them.
+/// A form of the program: its words, what may stand before the parts, what stands behind them, and
+/// what is told before the cause.
 pub struct Reading {
     pub words: &'static str,
     pub heads: &'static [&'static str],
     pub lines: &'static str,
+    pub told: &'static str,
 }
 
 // The names of parts, a line for each: lists of texts, and of byte strings, in two bytes a field;
@@ -64,11 +66,11 @@ pub fn try_input(
     words: &Words,
     input: &[u8],
     name: &str,
-    line: &str,
+    line: &[u8],
 ) -> Result<(), Fail> {
     let answer = answer_of(alloc, words, memory_devices(alloc, input, 4096, 2_000)?);
     assert!(rt; answer.status == Status::BadImage, "{name}");
-    assert!(rt; answer.sink.taken() == line.as_bytes(), "{name}");
+    assert!(rt; answer.sink.taken() == line, "{name}");
     Ok(())
 }
 
@@ -91,11 +93,12 @@ pub fn are_refused(
     refusals: &[Refusals],
 ) -> Result<(), Fail> {
     let words = words_in(alloc, reading.words)?;
-    for (line, cases) in refusals {
+    for (cause, cases) in refusals {
+        let line = join(alloc, &[reading.told, cause, "\n"])?;
         for case in cases.lines() {
             for head in reading.heads {
                 let input = input_of(alloc, case, head, reading.lines)?;
-                try_input(rt, alloc, &words, &input, case, line)?;
+                try_input(rt, alloc, &words, &input, case, &line)?;
             }
         }
     }

@@ -5,7 +5,7 @@ use std::test::Fail;
 // Tables by the first cause that holds, each of its rows.
 const MALFORMED: [Refusals; 5] = [
     (
-        "error length\n",
+        "length",
         "\
         one byte: 00\n\
         a row that is cut: A_TO_E_1 460000005000000002\n\
@@ -13,12 +13,12 @@ const MALFORMED: [Refusals; 5] = [
         rows that are cut, the first of which goes backwards: BACKWARDS 00",
     ),
     (
-        "error row 0\n",
+        "row 0",
         "\
         a range that goes backwards: BACKWARDS",
     ),
     (
-        "error row 1\n",
+        "row 1",
         "\
         a range that goes backwards, in the second row: A_TO_E_1 BACKWARDS\n\
         a range above the last code point: A_TO_E_1 ABOVE_ALL\n\
@@ -26,7 +26,7 @@ const MALFORMED: [Refusals; 5] = [
         a row without a value that is not above the one before it: A_TO_E_1 43000000500000000000",
     ),
     (
-        "error order 1\n",
+        "order 1",
         "\
         two equal rows: A_TO_E_1 A_TO_E_1\n\
         a row before the first: F_TO_P_1 A_TO_E_2\n\
@@ -34,7 +34,7 @@ const MALFORMED: [Refusals; 5] = [
         rows out of order, before one that joins: F_TO_P_1 A_TO_E_1 F_TO_P_1",
     ),
     (
-        "error join 1\n",
+        "join 1",
         "\
         a row that joins the one before it: A_TO_E_1 F_TO_P_1\n\
         rows that join, before one without a value: A_TO_E_2 F_TO_P_2 NO_VALUE\n\
@@ -46,6 +46,7 @@ const READING: Reading = Reading {
     words: "props",
     heads: &[""],
     lines: "\nat 65\nset 65 66 1\n",
+    told: "error ",
 };
 
 #[test]
