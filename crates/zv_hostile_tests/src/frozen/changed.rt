@@ -33,24 +33,56 @@ fn has_pairs(frozen: &Frozen<'_>, map: Pairs<'_>) -> bool {
     count == frozen.len()
 }
 
-// Whether bytes are refused, or each pair that they thaw to is found with its value.
-fn is_honest(alloc: Global, bytes: &[u8]) -> Result<bool, Fail> {
+// Whether bytes are read. What they thaw to is then found, each pair with its value.
+fn is_read(rt: &impl Abort, alloc: Global, bytes: &[u8]) -> Result<bool, Fail> {
     let Ok(frozen) = Frozen::parse(bytes) else {
-        return Ok(true);
+        return Ok(false);
     };
-    Ok(has_pairs(&frozen, frozen.thaw(alloc)?.as_borrowed()))
+    assert!(rt; has_pairs(&frozen, frozen.thaw(alloc)?.as_borrowed()));
+    Ok(true)
+}
+
+// How many of the 255 changes of the byte at a place leave bytes that are read, where no hash is
+// needed to tell.
+fn reads_at(place: usize) -> Option<usize> {
+    match place {
+        // the second number of a displacement: 2, 2 and 1, of which its remainder by 3 counts
+        12 | 20 | 28 => Some(84),
+        13..=15 | 21..=23 | 29..=31 => Some(85),
+        // its first number, or a text of a key: a hash tells
+        8..=11 | 16..=19 | 24..=27 | 50 | 51 | 56 | 57 | 62 | 63 => None,
+        // where the second value begins: at 0 or 2, and the third: at 1 or 3
+        74 | 76 => Some(2),
+        // a value: any byte
+        78..=80 => Some(255),
+        // a length, a count, where a key begins, or how long its first text is: none
+        _ => Some(0),
+    }
+}
+
+// How many changes of the byte at a place leave bytes that are read.
+fn try_changes(rt: &impl Abort, alloc: Global, place: usize) -> Result<usize, Fail> {
+    let mut changed = FROZEN;
+    let mut reads = 0usize;
+    for bits in 1..=255u8 {
+        changed[place] = FROZEN[place] ^ bits;
+        if is_read(rt, alloc, &changed)? {
+            reads = reads.saturating_add(1);
+        }
+    }
+    Ok(reads)
 }
 
 #[test]
 fn each_byte_is_changed(rt: HostRuntime) -> Result<(), Fail> {
     let alloc = rt.alloc();
-    let mut changed = FROZEN;
+    assert!(rt; is_read(&rt, alloc, &FROZEN)?);
+    assert!(rt; Frozen::parse(&FROZEN)?.len() == 3);
     for place in 0..FROZEN.len() {
-        for bits in 1..=255u8 {
-            changed[place] = FROZEN[place] ^ bits;
-            assert!(rt; is_honest(alloc, &changed)?);
+        let reads = try_changes(&rt, alloc, place)?;
+        if let Some(wanted) = reads_at(place) {
+            assert!(rt; reads == wanted, "{place}");
         }
-        changed[place] = FROZEN[place];
     }
     Ok(())
 }
