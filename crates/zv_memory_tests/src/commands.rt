@@ -3,14 +3,15 @@ use std::alloc::Global;
 use std::process::Abort;
 use std::test::Fail;
 use zv_input::{Command, CommandLines, CommandRef, Commands, CommandsError, KeyText};
+use zv_ule::NoMemory;
 
-// Adds a command of a key that takes memory, and tells whether there was memory.
-fn push(alloc: Global, commands: &mut Commands) -> Result<(), Fail> {
+// Adds a command of a key that takes memory. It is refused for want of memory alone.
+fn push(rt: &impl Abort, alloc: Global, commands: &mut Commands) -> Result<(), NoMemory> {
     let key0 = KeyText::new(alloc, "a key of more than twelve bytes")?;
     match commands.push(Command::Row { key0 }) {
         Ok(()) => Ok(()),
-        Err(CommandsError::Memory) => Err(zv_ule::NoMemory.into()),
-        Err(CommandsError::Full) => Ok(()),
+        Err(CommandsError::Memory) => Err(NoMemory),
+        Err(CommandsError::Full) => panic!(rt; "the list is full"),
     }
 }
 
@@ -19,7 +20,7 @@ fn commands_are_as_they_were(rt: HostRuntime) -> Result<(), Fail> {
     let alloc = rt.alloc();
     let mut commands = Commands::new(alloc);
     for count in 0..20usize {
-        let made = push(alloc, &mut commands);
+        let made = push(&rt, alloc, &mut commands);
         let wanted = if made.is_ok() {
             count.saturating_add(1)
         } else {

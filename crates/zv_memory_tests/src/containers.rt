@@ -1,7 +1,7 @@
 // Containers of maps.
 ghost use Rattle.std.specs.Prelude.{◌<◌, ◌^◌, IsTrue, length};
 
-use crate::refusal::end;
+use crate::refusal::{end, is_refused};
 use std::alloc::Global;
 use std::process::Abort;
 use std::test::Fail;
@@ -26,7 +26,13 @@ enum Call {
 type Row<'r> = (Call, &'r [u8]);
 
 // Makes a call at the first place, and tells whether it is refused.
-fn is_refused<'a, T, C, Q>(alloc: Global, list: &mut C, call: Call, value: &Q) -> bool
+fn is_call_refused<'a, T, C, Q>(
+    rt: &impl Abort,
+    alloc: Global,
+    list: &mut C,
+    call: Call,
+    value: &Q,
+) -> bool
 where
     T: ZvKind,
     C: MutableZeroVecLike<'a, T>,
@@ -35,13 +41,13 @@ where
 {
     let is_empty = list.zvl_len() == 0;
     match call {
-        Call::Insert => list.zvl_insert(alloc, 0, value).is_err(),
-        Call::Push => list.zvl_push(alloc, value).is_err(),
-        Call::Replace if !is_empty => list.zvl_replace(alloc, 0, value).err().is_some(),
-        Call::Remove if !is_empty => list.zvl_remove(alloc, 0).err().is_some(),
-        Call::Room => list.zvl_reserve_bytes(alloc, 100).is_err(),
-        Call::Own => list.zvl_make_owned(alloc).is_err(),
-        Call::Copy => list.zvl_clone(alloc).err().is_some(),
+        Call::Insert => is_refused(rt, list.zvl_insert(alloc, 0, value)),
+        Call::Push => is_refused(rt, list.zvl_push(alloc, value)),
+        Call::Replace if !is_empty => is_refused(rt, list.zvl_replace(alloc, 0, value)),
+        Call::Remove if !is_empty => is_refused(rt, list.zvl_remove(alloc, 0)),
+        Call::Room => is_refused(rt, list.zvl_reserve_bytes(alloc, 100)),
+        Call::Own => is_refused(rt, list.zvl_make_owned(alloc)),
+        Call::Copy => is_refused(rt, list.zvl_clone(alloc)),
         Call::Replace | Call::Remove => false,
     }
 }
@@ -68,7 +74,7 @@ where
         list.zvl_make_owned(alloc)?;
     }
     let (call, after) = *row;
-    let is_refused = is_refused::<T, C, Q>(alloc, &mut list, call, value);
+    let is_refused = is_call_refused::<T, C, Q>(rt, alloc, &mut list, call, value);
     assert!(rt; list.zvl_bytes() == if is_refused { before } else { after });
     end(is_refused)
 }

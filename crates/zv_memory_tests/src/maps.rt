@@ -1,5 +1,5 @@
 // Maps in one level.
-use crate::refusal::end;
+use crate::refusal::{end, is_refused};
 use std::alloc::Global;
 use std::process::Abort;
 use std::test::Fail;
@@ -29,17 +29,22 @@ struct Row<'r> {
 }
 
 // Makes a call with the name "x", and tells whether it is refused.
-fn is_refused<'a, C, D>(alloc: Global, map: &mut Names<C, D>, call: Call) -> bool
+fn is_call_refused<'a, C, D>(
+    rt: &impl Abort,
+    alloc: Global,
+    map: &mut Names<C, D>,
+    call: Call,
+) -> bool
 where
     C: MutableZeroVecLike<'a, u32>,
     D: MutableZeroVecLike<'a, StrULE>,
 {
     match call {
-        Call::Insert(key) => map.insert(alloc, &key, &"x").err().is_some(),
-        Call::Append(key) => map.try_append(alloc, &key, &"x").err().is_some(),
-        Call::Remove(key) => map.remove(alloc, &key).err().is_some(),
-        Call::Room => map.reserve(alloc, 100).is_err(),
-        Call::Copy => map.clone(alloc).err().is_some(),
+        Call::Insert(key) => is_refused(rt, map.insert(alloc, &key, &"x")),
+        Call::Append(key) => is_refused(rt, map.try_append(alloc, &key, &"x")),
+        Call::Remove(key) => is_refused(rt, map.remove(alloc, &key)),
+        Call::Room => is_refused(rt, map.reserve(alloc, 100)),
+        Call::Copy => is_refused(rt, map.clone(alloc)),
     }
 }
 
@@ -61,7 +66,7 @@ where
     D: MutableZeroVecLike<'a, StrULE>,
 {
     let mut map = Names::<C, D>::try_from_pairs(alloc, &[(1, "dos")])?;
-    let is_refused = is_refused(alloc, &mut map, row.call);
+    let is_refused = is_call_refused(rt, alloc, &mut map, row.call);
     let wanted = if is_refused { BEFORE } else { row.after };
     has_pairs(rt, map.as_borrowed(), wanted);
     end(is_refused)

@@ -1,5 +1,5 @@
 // Maps in two levels.
-use crate::refusal::end;
+use crate::refusal::{end, is_refused};
 use std::alloc::Global;
 use std::process::Abort;
 use std::test::Fail;
@@ -34,20 +34,25 @@ struct Row<'r> {
 }
 
 // Makes a call, with the name "x" where it takes one, and tells whether it is refused.
-fn is_refused<'a, C0, C1, D>(alloc: Global, map: &mut Names<'a, C0, C1, D>, call: Call) -> bool
+fn is_call_refused<'a, C0, C1, D>(
+    rt: &impl Abort,
+    alloc: Global,
+    map: &mut Names<'a, C0, C1, D>,
+    call: Call,
+) -> bool
 where
     C0: MutableZeroVecLike<'a, u16>,
     C1: MutableZeroVecLike<'a, u16>,
     D: MutableZeroVecLike<'a, StrULE>,
 {
     match call {
-        Call::Insert(key0, key1) => map.insert(alloc, &key0, &key1, &"x").err().is_some(),
-        Call::Append(key0, key1) => map.try_append(alloc, &key0, &key1, &"x").err().is_some(),
-        Call::Remove(key0, key1) => map.remove(alloc, &key0, &key1).err().is_some(),
-        Call::Room => map.reserve(alloc, 100).is_err(),
-        Call::RoomFor => map.reserve_for(alloc, 20, 20, 50, 10).is_err(),
-        Call::Own => map.make_owned(alloc).is_err(),
-        Call::Copy => map.clone(alloc).err().is_some(),
+        Call::Insert(key0, key1) => is_refused(rt, map.insert(alloc, &key0, &key1, &"x")),
+        Call::Append(key0, key1) => is_refused(rt, map.try_append(alloc, &key0, &key1, &"x")),
+        Call::Remove(key0, key1) => is_refused(rt, map.remove(alloc, &key0, &key1)),
+        Call::Room => is_refused(rt, map.reserve(alloc, 100)),
+        Call::RoomFor => is_refused(rt, map.reserve_for(alloc, 20, 20, 50, 10)),
+        Call::Own => is_refused(rt, map.make_owned(alloc)),
+        Call::Copy => is_refused(rt, map.clone(alloc)),
     }
 }
 
@@ -82,7 +87,7 @@ where
 {
     let mut map = Names::<'a, C0, C1, D>::new();
     map.insert(alloc, &1, &2, &"dos")?;
-    let is_refused = is_refused(alloc, &mut map, row.call);
+    let is_refused = is_call_refused(rt, alloc, &mut map, row.call);
     has_lists(rt, &map, if is_refused { &BEFORE } else { row });
     end(is_refused)
 }

@@ -1,5 +1,5 @@
 // Tables of code point ranges.
-use crate::refusal::end;
+use crate::refusal::{end, is_refused};
 use std::alloc::Global;
 use std::process::Abort;
 use std::test::Fail;
@@ -54,7 +54,7 @@ fn try_row(rt: &impl Abort, alloc: Global, row: &Row, is_owned: bool) -> Result<
         Props::parse(BEFORE)?
     };
     assert!(rt; row.first <= row.last && row.last <= 1_114_111);
-    let is_refused = table.set(alloc, row.first, row.last, row.value).is_err();
+    let is_refused = is_refused(rt, table.set(alloc, row.first, row.last, row.value));
     assert!(rt; table.as_bytes() == if is_refused { BEFORE } else { row.after });
     end(is_refused)
 }
