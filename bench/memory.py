@@ -29,8 +29,23 @@ SECONDS = 60  # and no more are refused of a run or a test after these
 WITHOUT_MEMORY = re.compile(rb"error: (AllocError|NoMemory|Memory|OutOfMemory)\b")
 
 
+# The frozen image of the three pairs of docs/FORMATS.md.
+FROZEN = model.framed(
+    [
+        bytes.fromhex("0000000002000000 0000000002000000 0000000001000000"),
+        model.encoded([bytes([2, 0, 0, 0]) + b"ab", bytes([1, 0, 0, 0]) + b"ab", bytes(4) + b"ab"], 2),
+        model.encoded([b"\3", b"\2", b"\1"], 2),
+    ]
+)
+
+
 def field(data):
     return model.spelled(data).decode()
+
+
+def table_row(first, last, value):
+    """A row of a table of code points."""
+    return first.to_bytes(4, "little") + last.to_bytes(4, "little") + value.to_bytes(2, "little")
 
 
 def forms():
@@ -45,6 +60,8 @@ def forms():
     asks = f"\nask {field(b'data of a long name')} {field(b'en-GB-oxendict')}\nask x64 x6672\n"
     wide = {b"a": {b"b": bytes(70_000)}}
     puts = field(model.canonical({})) + "\nput x61 x62 x01\n"
+    splits = {b"": {b"ab": b"\1"}, b"a": {b"b": b"\2"}, b"ab": {b"": b"\3"}}
+    stuck = {b"a": {b"b": b"\1", b"c": b"\2"}, b"b": {b"": b"\3"}}
     return [
         (["edit"], puts),
         (["edit"], edit),
@@ -58,8 +75,13 @@ def forms():
         (["layers"], field(model.canonical(locales)) + "\nx00\n"),
         (["props"], "x\nset 65 90 1\nset 97 122 1\nat 66\nset 91 96 1\nset 70 80 2\n"),
         (["props"], "x00\nat 65\n"),
+        (["props"], field(b"".join(table_row(65 + 3 * i, 66 + 3 * i, 1 + i % 7) for i in range(49))) + "\nset 70 80 2\nat 66\n"),
         (["make", "65"], ""),
         (["make", "4001"], ""),
+        (["freeze"], field(model.canonical(splits)) + "\n"),
+        (["freeze"], field(model.canonical(stuck)) + "\n"),
+        (["ask", "x6162", field(b"a key of more than twelve bytes")], field(FROZEN) + "\n"),
+        (["thaw"], field(FROZEN) + "\n"),
     ]
 
 
