@@ -42,7 +42,7 @@ const STUCK: &str = "\
     08000000000000000300010002006263\
     0900000000000000030001000200010203";
 
-const FROZEN: [Case; 34] = [
+const FROZEN: [Case; 39] = [
     Case {
         name: "a pair is frozen",
         words: &["freeze"],
@@ -242,6 +242,18 @@ const FROZEN: [Case; 34] = [
         status: Status::BadImage,
     },
     Case {
+        name: "a second text that is no text",
+        words: &["thaw"],
+        input: &[
+            "x",
+            "08000000000000000000000001000000",
+            "080000000000000001000100000061ff0300000000000000010001",
+            "\n",
+        ],
+        output: &["error key 0\n"],
+        status: Status::BadImage,
+    },
+    Case {
         name: "a character that is parted",
         words: &["thaw"],
         input: &[
@@ -252,6 +264,32 @@ const FROZEN: [Case; 34] = [
             "\n",
         ],
         output: &["error key 0\n"],
+        status: Status::BadImage,
+    },
+    Case {
+        name: "a third key that is no key",
+        words: &["ask", "x", "x6162"],
+        input: &[
+            "x",
+            "1800000000000000000000000200000000000000020000000000000001000000",
+            "1800000000000000030006000c00020000006162010000006162050000006162",
+            "0900000000000000030001000200030201",
+            "\n",
+        ],
+        output: &["error key 2\n"],
+        status: Status::BadImage,
+    },
+    Case {
+        name: "a pair that is stored twice",
+        words: &["thaw"],
+        input: &[
+            "x",
+            "100000000000000000000000010000000000000001000000",
+            "100000000000000002000600010000006162010000006162",
+            "0600000000000000020001000102",
+            "\n",
+        ],
+        output: &["error lies\n"],
         status: Status::BadImage,
     },
     Case {
@@ -305,6 +343,18 @@ const FROZEN: [Case; 34] = [
         status: Status::BadImage,
     },
     Case {
+        name: "a list of values whose count is cut, and fewer keys than displacements",
+        words: &["thaw"],
+        input: &[
+            "x",
+            "08000000000000000000000001000000",
+            "0000000000000000010000000000000001",
+            "\n",
+        ],
+        output: &["error part\n"],
+        status: Status::BadImage,
+    },
+    Case {
         name: "fewer keys than displacements",
         words: &["thaw"],
         input: &[
@@ -321,6 +371,18 @@ const FROZEN: [Case; 34] = [
         input: &[
             "x",
             "08000000000000000000000001000000080000000000000001000100000061620000000000000000",
+            "\n",
+        ],
+        output: &["error count\n"],
+        status: Status::BadImage,
+    },
+    Case {
+        name: "fewer values than keys, and a key that is no key",
+        words: &["ask", "x61", "x62"],
+        input: &[
+            "x",
+            "08000000000000000000000001000000",
+            "080000000000000001000500000061620000000000000000",
             "\n",
         ],
         output: &["error count\n"],
