@@ -1,4 +1,6 @@
 // A frozen image of which one byte is changed is refused, or has what it stores.
+ghost use Rattle.std.specs.Prelude.{◌<◌};
+
 use crate::frozen::few::FROZEN;
 use std::alloc::Global;
 use std::process::Abort;
@@ -61,7 +63,9 @@ fn reads_at(place: usize) -> Option<usize> {
 }
 
 // How many changes of the byte at a place leave bytes that are read.
-fn try_changes(rt: &impl Abort, alloc: Global, place: usize) -> Result<usize, Fail> {
+fn try_changes(rt: &impl Abort, alloc: Global, place: usize) -> Result<usize, Fail>
+    requires { place < 81 }
+{
     let mut changed = FROZEN;
     let mut reads = 0usize;
     for bits in 1..=255u8 {
