@@ -26,7 +26,7 @@ MADE_FOR_THIS = "zv_memory_tests"
 MOST = 400  # allocations of a run or a test that are refused in turn, and then one in each STEP
 STEP = 97
 SECONDS = 60  # and no more are refused of a run or a test after these
-WITHOUT_MEMORY = re.compile(rb"error: (AllocError|NoMemory|Memory|OutOfMemory)\b")
+WITHOUT_MEMORY = re.compile(rb"error: (AllocError|AllocFailed|NoMemory|Memory|OutOfMemory)\b")
 
 
 # The frozen image of the three pairs of docs/FORMATS.md.
