@@ -20,8 +20,8 @@ pub struct Reading {
 }
 
 // The names of parts, a line for each: lists of texts, and of byte strings, in two bytes a field;
-// ends of rows; and ranges with their values, A to E with 1 and with 2, F to P with 1 and with 2, and
-// rows that break a rule each: P to F, above the last code point, without a value.
+// ends of rows; and ranges with their values, A to E with 1 and with 2, F to P with 1 and with 2,
+// and rows that break a rule each: P to F, above the last code point, without a value.
 const PARTS: &str = "\
     NONE 0000000000000000\n\
     A 0300000000000000010061\n\
