@@ -16,15 +16,41 @@ use zv_json::{JsonError, JsonKind, JsonValue};
 use zv_owned::VarZeroVec;
 use zv_ule::{VarULE, VarZeroVecFormat};
 
-/// A text, and what comes of it.
-#[derive(Clone, Copy)]
-pub(crate) enum Case<'a> {
-    /// It is read, and written as it stands.
-    Same(&'a str),
-    /// It is read, and written as another text.
-    Becomes(&'a str, &'a str),
-    /// It is refused.
-    Refused(&'a str, JsonError),
+/// What comes of texts, a line for each. A text that is read stands behind `Ok`, and where it is
+/// written as another one, that stands behind `->`. A text that is refused stands behind the name of
+/// its error. Empty lines and lines that begin with `//` are passed over.
+pub(crate) type Cases = &'static str;
+
+// The error of a name.
+fn error_of(name: &str) -> Option<JsonError> {
+    match name {
+        "BadKey" => Some(JsonError::BadKey),
+        "KeyOrder" => Some(JsonError::KeyOrder),
+        "Range" => Some(JsonError::Range),
+        "Shape" => Some(JsonError::Shape),
+        "Syntax" => Some(JsonError::Syntax),
+        "Wide" => Some(JsonError::Wide),
+        _ => None,
+    }
+}
+
+/// The text of a line of cases, and what it is written as or why it is refused.
+pub(crate) fn case_of<'c>(
+    rt: &impl Abort,
+    line: &'c str,
+) -> Option<(&'c str, Result<&'c str, JsonError>)> {
+    if line.is_empty() || line.starts_with("//") {
+        return None;
+    }
+    let (name, text) = line.split_once(' ').unwrap_or((line, ""));
+    if name == "Ok" {
+        let (text, wanted) = text.split_once(" -> ").unwrap_or((text, text));
+        return Some((text, Ok(wanted)));
+    }
+    let Some(error) = error_of(name) else {
+        panic!(rt; "{line}");
+    };
+    Some((text, Err(error)))
 }
 
 // The text is read, and written as another one.
@@ -79,26 +105,22 @@ pub(crate) fn refuses<'a, F: JsonForm<'a> + Drop>(
 pub(crate) fn reads<'a, F: JsonForm<'a> + Drop>(
     rt: &impl Abort,
     alloc: Global,
-    cases: &[Case<'_>],
+    cases: Cases,
 ) -> Result<(), Fail>
     requires { IsTrue F.usable }
 {
-    for case in cases {
-        match case {
-            Case::Same(text) => becomes::<'_, F>(rt, alloc, text, text)?,
-            Case::Becomes(text, wanted) => becomes::<'_, F>(rt, alloc, *text, *wanted)?,
-            Case::Refused(text, error) => refuses::<'_, F>(rt, alloc, *text, *error),
+    for line in cases.lines() {
+        match case_of(rt, line) {
+            Some((text, Ok(wanted))) => becomes::<'_, F>(rt, alloc, text, wanted)?,
+            Some((text, Err(error))) => refuses::<'_, F>(rt, alloc, text, error),
+            None => {}
         }
     }
     Ok(())
 }
 
 // What comes of each text is so, where it is read as a vector of such values.
-fn reads_values<T: JsonValue>(
-    rt: &impl Abort,
-    alloc: Global,
-    cases: &[Case<'_>],
-) -> Result<(), Fail>
+fn reads_values<T: JsonValue>(rt: &impl Abort, alloc: Global, cases: Cases) -> Result<(), Fail>
     requires { IsTrue T.usable }
 {
     reads::<'_, ZeroVec<'_, T>>(rt, alloc, cases)
@@ -108,7 +130,7 @@ fn reads_values<T: JsonValue>(
 fn reads_elements<T: JsonKind + VarULE, F: VarZeroVecFormat>(
     rt: &impl Abort,
     alloc: Global,
-    cases: &[Case<'_>],
+    cases: Cases,
 ) -> Result<(), Fail>
     requires { IsTrue T.usable }
 {

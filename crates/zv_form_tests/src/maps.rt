@@ -4,13 +4,12 @@
 use crate::framed;
 use crate::framed::errors::{NO_TEXTS, SHORT_NUMBER};
 use crate::framed::{Fault, is_read};
-use crate::json::Case::{Becomes, Refused, Same};
-use crate::json::{Case, is_written, long_text, reads, refuses};
+use crate::json::{Cases, is_written, long_text, reads, refuses};
 use std::alloc::Global;
 use std::process::Abort;
 use std::test::Fail;
 use zv_framed::{FormError, OneLayout};
-use zv_json::JsonError::{BadKey, KeyOrder, Range, Shape, Syntax, TooLarge};
+use zv_json::JsonError::TooLarge;
 use zv_map::{MutableZeroVecLike, ZeroMapKV};
 use zv_map1::MapOver;
 use zv_ule::StrULE;
@@ -84,39 +83,39 @@ const FAULTS: &[Fault<'_>] = &[
 ];
 
 // Their texts.
-const NAMES: [Case<'_>; 27] = [
-    Same("{\"1\":\"uno\",\"2\":\"dos\",\"3\":\"tres\"}"),
-    Same("{}"),
-    Becomes("[]", "{}"),
-    Becomes("[[1,\"a\"],[2,\"b\"]]", "{\"1\":\"a\",\"2\":\"b\"}"),
-    Same("{\"0\":\"\",\"4294967295\":\"x\"}"),
-    // numbers are no texts: 2 is below 10, and its name is behind
-    Becomes("{\"2\":\"b\",\"10\":\"a\"}", "{\"10\":\"a\",\"2\":\"b\"}"),
-    // of equal names the last one stays
-    Becomes("{\"1\":\"a\",\"1\":\"b\"}", "{\"1\":\"b\"}"),
-    Refused("{\"01\":\"x\"}", BadKey),
-    Refused("{\"4294967296\":\"x\"}", BadKey),
-    Refused("{\"+1\":\"x\"}", BadKey),
-    Refused("{\"-0\":\"x\"}", BadKey),
-    Refused("{\"-1\":\"x\"}", BadKey),
-    Refused("{\" 1\":\"x\"}", BadKey),
-    Refused("{\"1 \":\"x\"}", BadKey),
-    Refused("{\"\":\"x\"}", BadKey),
-    Refused("{\"1.0\":\"x\"}", BadKey),
-    Refused("{\"1\":7}", Shape),
-    // a key is read before its value
-    Refused("{\"01\":7}", BadKey),
-    Refused("[[4294967296,7]]", Range),
-    Refused("[[1,\"a\"],[1,\"b\"]]", KeyOrder),
-    Refused("[[2,\"a\"],[1,\"b\"]]", KeyOrder),
-    // and a value before the order is looked at
-    Refused("[[2,\"a\"],[1,7]]", Shape),
-    Refused("[[1,\"a\",0]]", Shape),
-    Refused("[[1]]", Shape),
-    Refused("[1]", Shape),
-    Refused("7", Shape),
-    Refused("{", Syntax),
-];
+const NAMES: Cases = r#"
+Ok {"1":"uno","2":"dos","3":"tres"}
+Ok {}
+Ok [] -> {}
+Ok [[1,"a"],[2,"b"]] -> {"1":"a","2":"b"}
+Ok {"0":"","4294967295":"x"}
+// numbers are no texts: 2 is below 10, and its name is behind
+Ok {"2":"b","10":"a"} -> {"10":"a","2":"b"}
+// of equal names the last one stays
+Ok {"1":"a","1":"b"} -> {"1":"b"}
+BadKey {"01":"x"}
+BadKey {"4294967296":"x"}
+BadKey {"+1":"x"}
+BadKey {"-0":"x"}
+BadKey {"-1":"x"}
+BadKey {" 1":"x"}
+BadKey {"1 ":"x"}
+BadKey {"":"x"}
+BadKey {"1.0":"x"}
+Shape {"1":7}
+// a key is read before its value
+BadKey {"01":7}
+Range [[4294967296,7]]
+KeyOrder [[1,"a"],[1,"b"]]
+KeyOrder [[2,"a"],[1,"b"]]
+// and a value before the order is looked at
+Shape [[2,"a"],[1,7]]
+Shape [[1,"a",0]]
+Shape [[1]]
+Shape [1]
+Shape 7
+Syntax {
+"#;
 
 // They are read and written as bytes.
 fn have_frames<'a, C, D>(rt: &impl Abort, alloc: Global) -> Result<(), Fail>
@@ -136,7 +135,7 @@ where
     C: MutableZeroVecLike<'a, u32>,
     D: MutableZeroVecLike<'a, StrULE>,
 {
-    reads::<'_, Names<C, D>>(rt, alloc, &NAMES)?;
+    reads::<'_, Names<C, D>>(rt, alloc, NAMES)?;
     let above = long_text(alloc, "{\"1\":\"", 70_000, "\",\"2\":7}")?;
     refuses::<'_, Names<C, D>>(rt, alloc, above.as_str(), TooLarge);
     let pairs = long_text(alloc, "[[1,\"", 70_000, "\"],[0,\"b\"]]")?;
@@ -162,20 +161,20 @@ fn of_numbers_to_texts(rt: HostRuntime) -> Result<(), Fail> {
 
 type Pairs<C, D> = MapOver<(u32, u32), StrULE, C, D>;
 
-const PAIRS: [Case<'_>; 5] = [
-    Same("[[[1,1],\"uno\"],[[2,2],\"dos\"]]"),
-    Becomes("[]", "{}"),
-    Same("{}"),
-    Refused("[[[2,2],\"dos\"],[[1,1],\"uno\"]]", KeyOrder),
-    Refused("{\"1\":\"uno\"}", Shape),
-];
+const PAIRS: Cases = r#"
+Ok [[[1,1],"uno"],[[2,2],"dos"]]
+Ok [] -> {}
+Ok {}
+KeyOrder [[[2,2],"dos"],[[1,1],"uno"]]
+Shape {"1":"uno"}
+"#;
 
 fn are_arrays<'a, C, D>(rt: &impl Abort, alloc: Global) -> Result<(), Fail>
 where
     C: MutableZeroVecLike<'a, (u32, u32)>,
     D: MutableZeroVecLike<'a, StrULE>,
 {
-    reads::<'_, Pairs<C, D>>(rt, alloc, &PAIRS)?;
+    reads::<'_, Pairs<C, D>>(rt, alloc, PAIRS)?;
     let pairs = [((2, 2), "dos"), ((1, 1), "uno")];
     let map = Pairs::<C, D>::try_from_pairs(alloc, &pairs)?;
     is_written(rt, alloc, &map, "[[[1,1],\"uno\"],[[2,2],\"dos\"]]")
@@ -188,19 +187,19 @@ fn of_pairs_of_numbers(rt: HostRuntime) -> Result<(), Fail> {
 
 // ---- maps whose keys are numbers with a sign
 
-const SIGNED: [Case<'_>; 5] = [
-    Same("{\"-128\":-1,\"0\":2,\"127\":3}"),
-    Refused("{\"128\":1}", BadKey),
-    Refused("{\"-129\":1}", BadKey),
-    Refused("{\"-0\":1}", BadKey),
-    Refused("{\"-01\":1}", BadKey),
-];
+const SIGNED: Cases = r#"
+Ok {"-128":-1,"0":2,"127":3}
+BadKey {"128":1}
+BadKey {"-129":1}
+BadKey {"-0":1}
+BadKey {"-01":1}
+"#;
 
 fn are_signed<'a, C: MutableZeroVecLike<'a, i8>>(
     rt: &impl Abort,
     alloc: Global,
 ) -> Result<(), Fail> {
-    reads::<'_, MapOver<i8, i8, C, C>>(rt, alloc, &SIGNED)
+    reads::<'_, MapOver<i8, i8, C, C>>(rt, alloc, SIGNED)
 }
 
 #[test]

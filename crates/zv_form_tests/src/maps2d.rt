@@ -3,15 +3,13 @@
 
 use crate::framed::errors::{NO_TEXTS, SHORT_NUMBER, ZERO_KEY};
 use crate::framed::{Fault, are_just};
-use crate::json::is_text;
+use crate::json::{Cases, case_of, is_text};
 use std::alloc::Global;
 use std::num::NonZeroU8;
 use std::process::Abort;
 use std::test::Fail;
 use zv_forms::{JsonForm, ToJson};
 use zv_framed::{FormError, Framed, OneLayout};
-use zv_json::JsonError;
-use zv_json::JsonError::{BadKey, Shape};
 use zv_map::{MutableZeroVecLike, ZeroMapKV};
 use zv_map2d::Map2dOver;
 use zv_ule::StrULE;
@@ -58,23 +56,17 @@ where
 }
 
 // Texts, and what the maps are written as that they are read as, or why they are none.
-const ROWS: [(&str, Result<&str, JsonError>); 9] = [
-    (
-        "{\"1\":{\"1\":\"uno\"},\"2\":{\"2\":\"dos\",\"3\":\"tres\"}}",
-        Ok("{\"1\":{\"1\":\"uno\"},\"2\":{\"2\":\"dos\",\"3\":\"tres\"}}"),
-    ),
-    ("{}", Ok("{}")),
-    ("{\"1\":{}}", Ok("{}")),
-    (
-        "{\"1\":{},\"2\":{\"2\":\"dos\"}}",
-        Ok("{\"2\":{\"2\":\"dos\"}}"),
-    ),
-    ("{\"1\":7}", Err(Shape)),
-    ("{\"01\":7}", Err(BadKey)),
-    ("{\"1\":{\"65536\":\"uno\"}}", Err(BadKey)),
-    ("{\"1\":{\"1\":7}}", Err(Shape)),
-    ("[]", Err(Shape)),
-];
+const ROWS: Cases = r#"
+Ok {"1":{"1":"uno"},"2":{"2":"dos","3":"tres"}}
+Ok {}
+Ok {"1":{}} -> {}
+Ok {"1":{},"2":{"2":"dos"}} -> {"2":{"2":"dos"}}
+Shape {"1":7}
+BadKey {"01":7}
+BadKey {"1":{"65536":"uno"}}
+Shape {"1":{"1":7}}
+Shape []
+"#;
 
 // Maps are objects of objects.
 fn have_texts<'a, C0, C1, D>(rt: &impl Abort, alloc: Global) -> Result<(), Fail>
@@ -83,7 +75,10 @@ where
     C1: MutableZeroVecLike<'a, u16>,
     D: MutableZeroVecLike<'a, StrULE>,
 {
-    for (text, wanted) in ROWS {
+    for line in ROWS.lines() {
+        let Some((text, wanted)) = case_of(rt, line) else {
+            continue;
+        };
         match Rows::<'a, C0, C1, D>::from_json_text(alloc, text) {
             Ok(map) => is_text(rt, alloc, &map.to_json(alloc)?, wanted.unwrap_or(""))?,
             Err(error) => assert!(rt; wanted == Err(error), "{text}"),

@@ -3,15 +3,13 @@
 
 use crate::framed::errors::{SHORT_NUMBER, SHORT_PAIR};
 use crate::framed::{Fault, are_just};
-use crate::json::is_text;
+use crate::json::{Cases, case_of, is_text};
 use std::alloc::Global;
 use std::process::Abort;
 use std::test::Fail;
 use zv_forms::{JsonForm, ToJson};
 use zv_framed::{FormError, Framed, OneLayout};
 use zv_hashmap::HashMapOver;
-use zv_json::JsonError;
-use zv_json::JsonError::{Shape, Wide};
 use zv_map::{MutableZeroVecLike, ZeroMapKV};
 use zv_ule::StrULE;
 
@@ -103,17 +101,17 @@ where
 }
 
 // Texts, and what the tables are written as that they are read as, or why they are none.
-const TEXTS: [(&str, Result<&str, JsonError>); 8] = [
-    (TEXT, Ok(TEXT)),
-    ("[[],[],[]]", Ok("[[],[],[]]")),
-    ("[[\"a\"],[[\"b\",1]]]", Err(Shape)),
-    ("[[[0,0]],[1],[]]", Err(Shape)),
-    ("[[],[1],[\"a\"]]", Err(Shape)),
-    ("{}", Err(Shape)),
-    ("[[],[]]", Err(Shape)),
-    // the vectors are read before their counts are compared
-    ("[[],[1.5],[]]", Err(Wide)),
-];
+const TEXTS: Cases = r#"
+Ok [[[0,0],[0,1],[0,1]],[1,2,0],["b","c","a"]]
+Ok [[],[],[]]
+Shape [["a"],[["b",1]]]
+Shape [[[0,0]],[1],[]]
+Shape [[],[1],["a"]]
+Shape {}
+Shape [[],[]]
+// the vectors are read before their counts are compared
+Wide [[],[1.5],[]]
+"#;
 
 // Tables are arrays of their vectors.
 fn have_texts<'a, C, D>(rt: &impl Abort, alloc: Global) -> Result<(), Fail>
@@ -121,7 +119,10 @@ where
     C: MutableZeroVecLike<'a, u32>,
     D: MutableZeroVecLike<'a, StrULE>,
 {
-    for (text, wanted) in TEXTS {
+    for line in TEXTS.lines() {
+        let Some((text, wanted)) = case_of(rt, line) else {
+            continue;
+        };
         match Names::<'a, C, D>::from_json_text(alloc, text) {
             Ok(table) => is_text(rt, alloc, &table.to_json(alloc)?, wanted.unwrap_or(""))?,
             Err(error) => assert!(rt; wanted == Err(error), "{text}"),

@@ -1,112 +1,113 @@
 // Numbers at their bounds.
 
-use crate::json::Case::{Refused, Same};
-use crate::json::{Case, reads_values};
+use crate::json::{Cases, reads_values};
 use std::num::{NonZeroI8, NonZeroU8};
 use std::test::Fail;
 use zv_fixed::ZeroVec;
 use zv_forms::ToJson;
-use zv_json::JsonError::{Range, Shape, Wide};
 use zv_json::{JsonError, JsonKind};
 
-const U8: [Case<'_>; 9] = [
-    Same("[0,255]"),
-    Same("[]"),
-    Refused("[256]", Range),
-    Refused("[-1]", Range),
-    Refused("[-0]", Wide),
-    Refused("[1.0]", Wide),
-    Refused("[\"1\"]", Shape),
-    Refused("[null]", Shape),
-    Refused("[true]", Shape),
-];
+const U8: Cases = r#"
+Ok [0,255]
+Ok []
+Range [256]
+Range [-1]
+Wide [-0]
+Wide [1.0]
+Shape ["1"]
+Shape [null]
+Shape [true]
+"#;
 
-const I8: [Case<'_>; 3] = [
-    Same("[-128,127]"),
-    Refused("[128]", Range),
-    Refused("[-129]", Range),
-];
+const I8: Cases = r#"
+Ok [-128,127]
+Range [128]
+Range [-129]
+"#;
 
-const U16: [Case<'_>; 2] = [Same("[0,65535]"), Refused("[65536]", Range)];
+const U16: Cases = r#"
+Ok [0,65535]
+Range [65536]
+"#;
 
-const I16: [Case<'_>; 3] = [
-    Same("[-32768,32767]"),
-    Refused("[32768]", Range),
-    Refused("[-32769]", Range),
-];
+const I16: Cases = r#"
+Ok [-32768,32767]
+Range [32768]
+Range [-32769]
+"#;
 
-const U32: [Case<'_>; 5] = [
-    Same("[0,4294967295]"),
-    Refused("[4294967296]", Range),
-    Refused("[1.5]", Wide),
-    Refused("[1e2]", Wide),
-    Refused("[18446744073709551616]", Wide),
-];
+const U32: Cases = r#"
+Ok [0,4294967295]
+Range [4294967296]
+Wide [1.5]
+Wide [1e2]
+Wide [18446744073709551616]
+"#;
 
-const I32: [Case<'_>; 3] = [
-    Same("[-2147483648,2147483647]"),
-    Refused("[2147483648]", Range),
-    Refused("[-2147483649]", Range),
-];
+const I32: Cases = r#"
+Ok [-2147483648,2147483647]
+Range [2147483648]
+Range [-2147483649]
+"#;
 
-const U64: [Case<'_>; 3] = [
-    Same("[0,18446744073709551615]"),
-    Refused("[18446744073709551616]", Wide),
-    Refused("[-1]", Range),
-];
+const U64: Cases = r#"
+Ok [0,18446744073709551615]
+Wide [18446744073709551616]
+Range [-1]
+"#;
 
-const I64: [Case<'_>; 4] = [
-    Same("[-9223372036854775808,9223372036854775807]"),
-    Refused("[9223372036854775808]", Range),
-    Refused("[18446744073709551616]", Wide),
-    Refused("[-9223372036854775809]", Wide),
-];
+const I64: Cases = r#"
+Ok [-9223372036854775808,9223372036854775807]
+Range [9223372036854775808]
+Wide [18446744073709551616]
+Wide [-9223372036854775809]
+"#;
 
-const U128: [Case<'_>; 4] = [
-    Same("[0,18446744073709551615]"),
-    Refused("[18446744073709551616]", Wide),
-    Refused("[-1]", Range),
-    Refused("[-9223372036854775809]", Wide),
-];
+const U128: Cases = r#"
+Ok [0,18446744073709551615]
+Wide [18446744073709551616]
+Range [-1]
+Wide [-9223372036854775809]
+"#;
 
-const I128: [Case<'_>; 3] = [
-    Same("[-9223372036854775808,18446744073709551615]"),
-    Refused("[18446744073709551616]", Wide),
-    Refused("[-9223372036854775809]", Wide),
-];
+const I128: Cases = r#"
+Ok [-9223372036854775808,18446744073709551615]
+Wide [18446744073709551616]
+Wide [-9223372036854775809]
+"#;
 
-const NON_ZERO_U8: [Case<'_>; 3] = [
-    Same("[1,255]"),
-    Refused("[0]", Range),
-    Refused("[256]", Range),
-];
+const NON_ZERO_U8: Cases = r#"
+Ok [1,255]
+Range [0]
+Range [256]
+"#;
 
-const NON_ZERO_I8: [Case<'_>; 3] = [
-    Same("[-128,-1,1,127]"),
-    Refused("[0]", Range),
-    Refused("[128]", Range),
-];
+const NON_ZERO_I8: Cases = r#"
+Ok [-128,-1,1,127]
+Range [0]
+Range [128]
+"#;
 
 #[test]
 fn numbers_without_a_sign_are_read_in_their_range(rt: HostRuntime) -> Result<(), Fail> {
     let alloc = rt.alloc();
-    reads_values::<u8>(&rt, alloc, &U8)?;
-    reads_values::<u16>(&rt, alloc, &U16)?;
-    reads_values::<u32>(&rt, alloc, &U32)?;
-    reads_values::<u64>(&rt, alloc, &U64)?;
-    reads_values::<u128>(&rt, alloc, &U128)?;
-    reads_values::<NonZeroU8>(&rt, alloc, &NON_ZERO_U8)
+    reads_values::<u8>(&rt, alloc, U8)?;
+    reads_values::<u16>(&rt, alloc, U16)?;
+    reads_values::<u32>(&rt, alloc, U32)?;
+    reads_values::<u64>(&rt, alloc, U64)?;
+    reads_values::<u128>(&rt, alloc, U128)?;
+    reads_values::<NonZeroU8>(&rt, alloc, NON_ZERO_U8)
 }
 
 #[test]
 fn numbers_with_a_sign_are_read_in_their_range(rt: HostRuntime) -> Result<(), Fail> {
     let alloc = rt.alloc();
-    reads_values::<i8>(&rt, alloc, &I8)?;
-    reads_values::<i16>(&rt, alloc, &I16)?;
-    reads_values::<i32>(&rt, alloc, &I32)?;
-    reads_values::<i64>(&rt, alloc, &I64)?;
-    reads_values::<i128>(&rt, alloc, &I128)?;
-    reads_values::<NonZeroI8>(&rt, alloc, &NON_ZERO_I8)
+    reads_values::<i8>(&rt, alloc, I8)?;
+    reads_values::<i16>(&rt, alloc, I16)?;
+    reads_values::<i32>(&rt, alloc, I32)?;
+    reads_values::<i64>(&rt, alloc, I64)?;
+    reads_values::<i128>(&rt, alloc, I128)?;
+    reads_values::<NonZeroI8>(&rt, alloc, NON_ZERO_I8)
 }
 
 #[test]

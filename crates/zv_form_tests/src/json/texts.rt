@@ -1,58 +1,61 @@
 // Texts, characters, and texts that are no JSON.
 ghost use Rattle.std.specs.Prelude.{◌≤◌};
 
-use crate::json::Case::{Becomes, Refused, Same};
-use crate::json::{Case, long_text, reads_elements, reads_values, refuses};
+use crate::json::{Cases, becomes, long_text, reads_elements, reads_values, refuses};
 use std::alloc::Global;
 use std::process::Abort;
 use std::test::Fail;
 use zv_fixed::ZeroVec;
 use zv_json::JsonError;
-use zv_json::JsonError::{Range, Shape, Syntax, TooLarge};
+use zv_json::JsonError::{Shape, Syntax, TooLarge};
+use zv_owned::VarZeroVec;
 use zv_ule::{Index8, Index16, Index32, StrULE};
 
-const CHARS: [Case<'_>; 11] = [
-    Same("[\"a\",\"ω\",\"文\",\"𑄃\"]"),
-    Becomes("[\"\\udbff\\udfff\"]", "[\"\u{10ffff}\"]"),
-    // no two escapes stand for a character past that
-    Refused("[\"\\udbff\\ue000\"]", Syntax),
-    Becomes("[\"\\ud83d\\ude00\"]", "[\"😀\"]"),
-    Refused("[\"\\ud800\"]", Syntax),
-    Refused("[\"\\udc00\\ud800\"]", Syntax),
-    Refused("[\"ab\"]", Range),
-    Refused("[\"\"]", Range),
-    Refused("[\"e\\u0301\"]", Range),
-    Refused("[97]", Shape),
-    Refused("[null]", Shape),
-];
+const CHARS: Cases = r#"
+Ok ["a","ω","文","𑄃"]
+// no two escapes stand for a character past the highest
+Syntax ["\udbff\ue000"]
+Ok ["\ud83d\ude00"] -> ["😀"]
+Syntax ["\ud800"]
+Syntax ["\udc00\ud800"]
+Range ["ab"]
+Range [""]
+Range ["e\u0301"]
+Shape [97]
+Shape [null]
+"#;
 
-const TEXTS: [Case<'_>; 6] = [
-    Same("[\"\",\"a\",\"bc\"]"),
-    Same("[]"),
-    Refused("[\"a\",7]", Shape),
-    Refused("[\"a\"", Syntax),
-    Refused("", Syntax),
-    Refused("[\"a\"] x", Syntax),
-];
+const TEXTS: Cases = r#"
+Ok ["","a","bc"]
+Ok []
+Shape ["a",7]
+Syntax ["a"
+Syntax
+Syntax ["a"] x
+"#;
 
-const BYTES: [Case<'_>; 6] = [
-    Refused("\"abc\"", Shape),
-    Refused("{}", Shape),
-    Refused("7", Shape),
-    Refused("null", Shape),
-    Refused("[1,]", Syntax),
-    Refused("[01]", Syntax),
-];
+const BYTES: Cases = r#"
+Shape "abc"
+Shape {}
+Shape 7
+Shape null
+Syntax [1,]
+Syntax [01]
+"#;
 
 #[test]
 fn texts_are_strings(rt: HostRuntime) -> Result<(), Fail> {
     let alloc = rt.alloc();
-    reads_values::<char>(&rt, alloc, &CHARS)?;
-    reads_elements::<StrULE, Index8>(&rt, alloc, &TEXTS)?;
-    reads_elements::<StrULE, Index16>(&rt, alloc, &TEXTS)?;
-    reads_elements::<StrULE, Index32>(&rt, alloc, &TEXTS)?;
-    reads_values::<u8>(&rt, alloc, &BYTES)
+    reads_values::<char>(&rt, alloc, CHARS)?;
+    let highest = "[\"\\udbff\\udfff\"]";
+    becomes::<'_, ZeroVec<'_, char>>(&rt, alloc, highest, "[\"\u{10ffff}\"]")?;
+    reads_elements::<StrULE, Index8>(&rt, alloc, TEXTS)?;
+    reads_elements::<StrULE, Index16>(&rt, alloc, TEXTS)?;
+    reads_elements::<StrULE, Index32>(&rt, alloc, TEXTS)?;
+    reads_values::<u8>(&rt, alloc, BYTES)
 }
+
+type Short<'a> = VarZeroVec<'a, StrULE, Index8>;
 
 #[test]
 fn lists_are_too_large_after_their_items(rt: HostRuntime) -> Result<(), Fail> {
@@ -60,12 +63,10 @@ fn lists_are_too_large_after_their_items(rt: HostRuntime) -> Result<(), Fail> {
     let most = long_text(alloc, "[\"", 254, "\"]")?;
     let above = long_text(alloc, "[\"", 255, "\"]")?;
     let other = long_text(alloc, "[\"", 255, "\",7]")?;
-    let cases = [
-        Same(most.as_str()),
-        Refused(above.as_str(), TooLarge),
-        Refused(other.as_str(), Shape),
-    ];
-    reads_elements::<StrULE, Index8>(&rt, alloc, &cases)
+    becomes::<'_, Short<'_>>(&rt, alloc, most.as_str(), most.as_str())?;
+    refuses::<'_, Short<'_>>(&rt, alloc, above.as_str(), TooLarge);
+    refuses::<'_, Short<'_>>(&rt, alloc, other.as_str(), Shape);
+    Ok(())
 }
 
 // As many arrays in one another are refused so.
