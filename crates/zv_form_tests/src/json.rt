@@ -19,7 +19,7 @@ use zv_ule::{VarULE, VarZeroVecFormat};
 /// What comes of texts, a line for each. A text that is read stands behind `Ok`, and where it is
 /// written as another one, that stands behind `->`. A text that is refused stands behind the name of
 /// its error. Empty lines and lines that begin with `//` are passed over.
-pub(crate) type Cases = &'static str;
+pub(crate) type Cases<'a> = &'a str;
 
 // The error of a name.
 fn error_of(name: &str) -> Option<JsonError> {
@@ -105,7 +105,7 @@ pub(crate) fn refuses<'a, F: JsonForm<'a> + Drop>(
 pub(crate) fn reads<'a, F: JsonForm<'a> + Drop>(
     rt: &impl Abort,
     alloc: Global,
-    cases: Cases,
+    cases: Cases<'_>,
 ) -> Result<(), Fail>
     requires { IsTrue F.usable }
 {
@@ -120,7 +120,7 @@ pub(crate) fn reads<'a, F: JsonForm<'a> + Drop>(
 }
 
 // What comes of each text is so, where it is read as a vector of such values.
-fn reads_values<T: JsonValue>(rt: &impl Abort, alloc: Global, cases: Cases) -> Result<(), Fail>
+fn reads_values<T: JsonValue>(rt: &impl Abort, alloc: Global, cases: Cases<'_>) -> Result<(), Fail>
     requires { IsTrue T.usable }
 {
     reads::<'_, ZeroVec<'_, T>>(rt, alloc, cases)
@@ -130,7 +130,7 @@ fn reads_values<T: JsonValue>(rt: &impl Abort, alloc: Global, cases: Cases) -> R
 fn reads_elements<T: JsonKind + VarULE, F: VarZeroVecFormat>(
     rt: &impl Abort,
     alloc: Global,
-    cases: Cases,
+    cases: Cases<'_>,
 ) -> Result<(), Fail>
     requires { IsTrue T.usable }
 {

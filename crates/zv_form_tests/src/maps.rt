@@ -83,7 +83,7 @@ const FAULTS: &[Fault<'_>] = &[
 ];
 
 // Their texts.
-const NAMES: Cases = r#"
+const NAMES: Cases<'_> = r#"
 Ok {"1":"uno","2":"dos","3":"tres"}
 Ok {}
 Ok [] -> {}
@@ -161,7 +161,7 @@ fn of_numbers_to_texts(rt: HostRuntime) -> Result<(), Fail> {
 
 type Pairs<C, D> = MapOver<(u32, u32), StrULE, C, D>;
 
-const PAIRS: Cases = r#"
+const PAIRS: Cases<'_> = r#"
 Ok [[[1,1],"uno"],[[2,2],"dos"]]
 Ok [] -> {}
 Ok {}
@@ -187,7 +187,7 @@ fn of_pairs_of_numbers(rt: HostRuntime) -> Result<(), Fail> {
 
 // ---- maps whose keys are numbers with a sign
 
-const SIGNED: Cases = r#"
+const SIGNED: Cases<'_> = r#"
 Ok {"-128":-1,"0":2,"127":3}
 BadKey {"128":1}
 BadKey {"-129":1}

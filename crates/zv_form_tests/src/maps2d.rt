@@ -56,7 +56,7 @@ where
 }
 
 // Texts, and what the maps are written as that they are read as, or why they are none.
-const ROWS: Cases = r#"
+const ROWS: Cases<'_> = r#"
 Ok {"1":{"1":"uno"},"2":{"2":"dos","3":"tres"}}
 Ok {}
 Ok {"1":{}} -> {}

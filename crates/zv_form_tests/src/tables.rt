@@ -101,7 +101,7 @@ where
 }
 
 // Texts, and what the tables are written as that they are read as, or why they are none.
-const TEXTS: Cases = r#"
+const TEXTS: Cases<'_> = r#"
 Ok [[[0,0],[0,1],[0,1]],[1,2,0],["b","c","a"]]
 Ok [[],[],[]]
 Shape [["a"],[["b",1]]]

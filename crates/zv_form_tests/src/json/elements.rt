@@ -8,7 +8,7 @@ use zv_multi::{Tuple2VarULE, Tuple3VarULE, Tuple4VarULE, Tuple5VarULE, Tuple6Var
 use zv_ule::{Index16, NichedOption, SliceULE, StrULE};
 use zv_var::VarZeroSliceULE;
 
-const PAIRS: Cases = r#"
+const PAIRS: Cases<'_> = r#"
 Ok [[1,"a"],[1234901,"啊"]]
 Shape [[1]]
 Shape [[1,"a",2]]
@@ -19,7 +19,7 @@ Range [[4294967296,7]]
 Wide [[1.5,"ab"]]
 "#;
 
-const THREES: Cases = r#"
+const THREES: Cases<'_> = r#"
 Ok [[0,0,0],[255,65535,4294967295]]
 Shape [[1,2]]
 Shape [[1,2,3,4]]
@@ -28,7 +28,7 @@ Range [[1,2,4294967296]]
 "#;
 
 // Arrays of two numbers, of two, of two, and of two characters.
-const FOURS: Cases = r#"
+const FOURS: Cases<'_> = r#"
 Ok [[[0,65535],[0,4294967295],[0,18446744073709551615],["a","ω"]]]
 Shape [[[1,2],[3,4],[5,6]]]
 Shape [[[1,2],[3,4],[5,6],["a","b"],[]]]
@@ -46,7 +46,7 @@ Shape [[[1,2],{},[5,6],["a","b"]]]
 Range [[[65536,2],[3],[5,6],["a","b"]]]
 "#;
 
-const FIVES: Cases = r#"
+const FIVES: Cases<'_> = r#"
 Ok [[1,2,3,18446744073709551615,"ω"]]
 Shape [[1,2,3,4]]
 Shape [[1,2,3,4,"a",true]]
@@ -55,38 +55,38 @@ Range [[1,2,3,4,""]]
 Range [[1,2,3,-1,5]]
 "#;
 
-const SIXES: Cases = r#"
+const SIXES: Cases<'_> = r#"
 Ok [[1,2,3,4,5,true]]
 Shape [[1,2,3,4,5,6]]
 "#;
 
-const OPTIONS: Cases = r#"
+const OPTIONS: Cases<'_> = r#"
 Ok [null,7,0]
 Ok [null]
 Range [256]
 Shape [[]]
 "#;
 
-const NICHES: Cases = r#"
+const NICHES: Cases<'_> = r#"
 Ok [null,7]
 Range [0]
 "#;
 
-const ARRAYS: Cases = r#"
+const ARRAYS: Cases<'_> = r#"
 Ok [[1,2,3],[4,5,6]]
 Shape [[1,2]]
 Shape [[1,2,3,4]]
 Range [[1,2,256]]
 "#;
 
-const NESTED: Cases = r#"
+const NESTED: Cases<'_> = r#"
 Ok [["a","bc"],[],[""]]
 Shape ["a"]
 Shape [["a"],[7]]
 Shape [[[]]]
 "#;
 
-const SIZED: Cases = r#"
+const SIZED: Cases<'_> = r#"
 Ok [{"sized":1500,"variable":"hello"}]
 Ok [{"variable":"","sized":0}] -> [{"sized":0,"variable":""}]
 Shape [{"sized":1500}]
@@ -97,7 +97,7 @@ Range [{"sized":70000,"variable":7}]
 Shape [[1500,"hello"]]
 "#;
 
-const RECORDS: Cases = r#"
+const RECORDS: Cases<'_> = r#"
 Ok [["a",[98]],["",[]]]
 Shape [["a"]]
 Shape [["a",[98],1]]
@@ -108,7 +108,7 @@ Shape [[7,[256]]]
 Range [["a",[256]]]
 "#;
 
-const RECORDS3: Cases = r#"
+const RECORDS3: Cases<'_> = r#"
 Ok [["a",[98],[65535]],["",[],[]]]
 Shape [["a",[98]]]
 Shape [["a",[98],[1],2]]
@@ -116,7 +116,7 @@ Shape [["a",98,[1]]]
 Range [["a",[98],[65536]]]
 "#;
 
-const RECORDS4: Cases = r#"
+const RECORDS4: Cases<'_> = r#"
 Ok [["a","","ω",[255]],["","","",[]]]
 Shape [["a","b","c"]]
 Shape [["a","b","c",[1],2]]
@@ -124,7 +124,7 @@ Shape [["a","b",7,[1]]]
 Range [["a","b","c",[256]]]
 "#;
 
-const RECORDS5: Cases = r#"
+const RECORDS5: Cases<'_> = r#"
 Ok [["a","b","","ω",[1,65535]]]
 Shape [["a","b","c","d"]]
 Shape [["a","b","c","d",[1],2]]
@@ -132,7 +132,7 @@ Shape [["a","b","c",["d"],[1]]]
 Range [["a","b","c","d",[65536]]]
 "#;
 
-const LONG_RECORDS: Cases = r#"
+const LONG_RECORDS: Cases<'_> = r#"
 Ok [["a","b","c","d","e",[1,65535]]]
 Range [["a","b","c","d","e",[65536]]]
 "#;
@@ -191,7 +191,7 @@ fn elements_of_any_length_are_composed(rt: HostRuntime) -> Result<(), Fail> {
     reads_elements::<ZeroSliceULE<u8>, Index16>(&rt, alloc, ARRAYS_OF_ANY_LENGTH)
 }
 
-const ARRAYS_OF_ANY_LENGTH: Cases = r#"
+const ARRAYS_OF_ANY_LENGTH: Cases<'_> = r#"
 Ok [[1,2,3],[],[255]]
 Shape [1]
 Range [[256]]

@@ -7,7 +7,7 @@ use zv_fixed::ZeroVec;
 use zv_forms::ToJson;
 use zv_json::{JsonError, JsonKind};
 
-const U8: Cases = r#"
+const U8: Cases<'_> = r#"
 Ok [0,255]
 Ok []
 Range [256]
@@ -19,24 +19,24 @@ Shape [null]
 Shape [true]
 "#;
 
-const I8: Cases = r#"
+const I8: Cases<'_> = r#"
 Ok [-128,127]
 Range [128]
 Range [-129]
 "#;
 
-const U16: Cases = r#"
+const U16: Cases<'_> = r#"
 Ok [0,65535]
 Range [65536]
 "#;
 
-const I16: Cases = r#"
+const I16: Cases<'_> = r#"
 Ok [-32768,32767]
 Range [32768]
 Range [-32769]
 "#;
 
-const U32: Cases = r#"
+const U32: Cases<'_> = r#"
 Ok [0,4294967295]
 Range [4294967296]
 Wide [1.5]
@@ -44,45 +44,45 @@ Wide [1e2]
 Wide [18446744073709551616]
 "#;
 
-const I32: Cases = r#"
+const I32: Cases<'_> = r#"
 Ok [-2147483648,2147483647]
 Range [2147483648]
 Range [-2147483649]
 "#;
 
-const U64: Cases = r#"
+const U64: Cases<'_> = r#"
 Ok [0,18446744073709551615]
 Wide [18446744073709551616]
 Range [-1]
 "#;
 
-const I64: Cases = r#"
+const I64: Cases<'_> = r#"
 Ok [-9223372036854775808,9223372036854775807]
 Range [9223372036854775808]
 Wide [18446744073709551616]
 Wide [-9223372036854775809]
 "#;
 
-const U128: Cases = r#"
+const U128: Cases<'_> = r#"
 Ok [0,18446744073709551615]
 Wide [18446744073709551616]
 Range [-1]
 Wide [-9223372036854775809]
 "#;
 
-const I128: Cases = r#"
+const I128: Cases<'_> = r#"
 Ok [-9223372036854775808,18446744073709551615]
 Wide [18446744073709551616]
 Wide [-9223372036854775809]
 "#;
 
-const NON_ZERO_U8: Cases = r#"
+const NON_ZERO_U8: Cases<'_> = r#"
 Ok [1,255]
 Range [0]
 Range [256]
 "#;
 
-const NON_ZERO_I8: Cases = r#"
+const NON_ZERO_I8: Cases<'_> = r#"
 Ok [-128,-1,1,127]
 Range [0]
 Range [128]

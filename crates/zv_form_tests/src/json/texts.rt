@@ -11,7 +11,7 @@ use zv_json::JsonError::{Shape, Syntax, TooLarge};
 use zv_owned::VarZeroVec;
 use zv_ule::{Index8, Index16, Index32, StrULE};
 
-const CHARS: Cases = r#"
+const CHARS: Cases<'_> = r#"
 Ok ["a","ω","文","𑄃"]
 // no two escapes stand for a character past the highest
 Syntax ["\udbff\ue000"]
@@ -25,7 +25,7 @@ Shape [97]
 Shape [null]
 "#;
 
-const TEXTS: Cases = r#"
+const TEXTS: Cases<'_> = r#"
 Ok ["","a","bc"]
 Ok []
 Shape ["a",7]
@@ -34,7 +34,7 @@ Syntax
 Syntax ["a"] x
 "#;
 
-const BYTES: Cases = r#"
+const BYTES: Cases<'_> = r#"
 Shape "abc"
 Shape {}
 Shape 7
