@@ -17,8 +17,8 @@ use zv_owned::VarZeroVec;
 use zv_ule::{VarULE, VarZeroVecFormat};
 
 /// What comes of texts, a line for each. A text that is read stands behind `Ok`, and where it is
-/// written as another one, that stands behind `->`. A text that is refused stands behind its error's
-/// name. Empty lines and lines that begin with `//` are passed over.
+/// written as another one, that stands behind `->`. A text that is refused stands behind the name
+/// of its error. Empty lines and lines that begin with `//` are passed over.
 pub(crate) type Cases<'a> = &'a str;
 
 // The error of a name.
