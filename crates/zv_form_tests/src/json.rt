@@ -35,6 +35,7 @@ fn error_of(name: &str) -> Option<JsonError> {
 }
 
 /// The text of a line of cases, and what it is written as or why it is refused.
+/// A line that begins with any other word stops the test.
 pub(crate) fn case_of<'c>(
     rt: &impl Abort,
     line: &'c str,
