@@ -1,12 +1,11 @@
 -- A frozen image is parsed, answers as its map does, and thaws to it.
 use Rattle.zv_frozen.proofs.Common.{◌∙◌, ◌∷◌, ◌≡◌, All, All-from_recursion, AllByRecursion, AnswersAs, AreHome, Bytes, FormError, IfSome, IsKey, IsReadAs}
-use Rattle.zv_frozen.proofs.Common.{IsReadTable, IsSameTable, IsSound, IsTableFor, IsWell, List, None, Option, Rows, Some, Table, [], arith, by_bytes, entries}
-use Rattle.zv_frozen.proofs.Common.{false, find, first_no_key, firsts-zip, form_fault, found, key_hashed, key_order, keys_of, length, list16, look_up, map}
-use Rattle.zv_frozen.proofs.Common.{none_well, nth, option_map_or, over_none, pairs_of, parts_in, puts_in_order, recursion_from_All, refl, suc, table_fault}
+use Rattle.zv_frozen.proofs.Common.{IsReadTable, IsSameTable, IsSound, IsTableFor, IsWell, List, None, Option, Rows, Some, Table, [], by_bytes, entries}
+use Rattle.zv_frozen.proofs.Common.{false, first_no_key, firsts-zip, form_fault, found, found_same, key_hashed, key_order, keys_of, length, list16, look_up}
+use Rattle.zv_frozen.proofs.Common.{map, none_well, nth, option_map_or, pairs_of, parts_in, puts_in_order, recursion_from_All, refl, suc, table_fault}
 use Rattle.zv_frozen.proofs.Common.{thawed, triples, triples_of, true, values_of, ℕ}
 use Rattle.std.proofs.lemmas.Map.Views.{All-map-IsPermutation}
 use Rattle.zv_framed.specs.Displacements.{displacements_in}
-use Rattle.zv_layers.proofs.Found.{only_overlay}
 use Rattle.zv_map.specs.Keys.{IsElementOf}
 use Rattle.zv_map.specs.Vectors.{Vector}
 use Rattle.zv_map.specs.declared.view.Layout.TheVariants.{Index16}
@@ -45,11 +44,8 @@ module _ (m : Rows) (well : IsWell by_bytes by_bytes m) (elements : AreElements 
 
   thaws : thawed t ≡ m
   thaws =
-      let none = none_well by_bytes by_bytes refl in
-      only_overlay [] m (thawed t) none well (puts_in_order [] (triples_of t) none)
-      (λ k0 k1. let one = find by_bytes by_bytes m k0 k1 in
-      thawed_alike home_tables t counts sound k0 k1 ∙ found_as_in_map m well t of_map k0 k1 ∙ grind arith)
-      ∙ over_none m well
+      found_same (thawed t) m (puts_in_order [] (triples_of t) (none_well by_bytes by_bytes refl)) well
+      (λ k0 k1. thawed_alike home_tables t counts sound k0 k1 ∙ found_as_in_map m well t of_map k0 k1)
 
   module _ (bytes : List ℕ) (formed : form_fault 3 (table_fault list16 list16) bytes ≡ None) (same : (u : Table) → IsReadAs bytes u → IsSameTable t u) where
     abbrev vector_in : List ℕ → Vector

@@ -9,7 +9,7 @@ use Rattle.zv_map2d.specs.Appending.{Triple, put_all}
 use Rattle.zv_map2d.specs.Causes.{Reading}
 use Rattle.zv_map2d.specs.Image.{by_bytes, bytes_fault, var_list}
 use Rattle.zv_map2d.specs.Rows.{Rows}
-use Rattle.zv_layers.specs.Overlays.{triples}
+use Rattle.zv_map2d_laws.specs.Overlays.{triples}
 use Rattle.zv_hashmap.specs.Building.{IsTableOf, fit}
 use Rattle.zv_hashmap.specs.Table.{AreHome, Table, found, pairs_of}
 use Rattle.zv_framed.specs.Displacements.{displacements_written}

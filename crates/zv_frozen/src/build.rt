@@ -4,7 +4,7 @@ ghost use Rattle.std.specs.Prelude.{MatchResult};
 ghost use Rattle.std.specs.Prelude.{OnOk, length, map};
 ghost use Rattle.zv_ule.specs.Views.{element_of};
 ghost use Rattle.zv_map.specs.Iters.{left_of};
-ghost use Rattle.zv_layers.specs.Overlays.{row_triples};
+ghost use Rattle.zv_map2d_laws.specs.Overlays.{row_triples};
 ghost use Rattle.zv_frozen.specs.Faults.{IsNotFrozen, freeze_error};
 ghost use Rattle.zv_frozen.specs.Argument.{key_of};
 ghost use Rattle.zv_frozen.specs.Laws.{AnswersAs};

@@ -11,10 +11,10 @@ pub use Rattle.std.specs.List.{AllByRecursion}
 pub use Rattle.std.specs.Prelude.{⊤}
 pub use Rattle.zv_input.proofs.Fields.{field_is}
 pub use Rattle.zv_layers.specs.Columns.{AreInOrder, columns_of, rows_in, with_pairs, with_row}
-pub use Rattle.zv_layers.specs.Laws.{AreAccepted, Associative, EmptyOver, FoundInUpper, IsInOrder, NeverRefused, OnlyOverlay, OverItself, OverlayInOrder, found}
-pub use Rattle.zv_layers.specs.Overlays.{overlay, refusal, row_triples, triples}
+pub use Rattle.zv_layers.specs.Laws.{AreAccepted, NeverRefused}
+pub use Rattle.zv_layers.specs.Overlays.{refusal}
 pub use Rattle.zv_layers.specs.Requests.{IsLaid, IsRefusalOf, Leaves, bytes_of_all, fault_or, first_fault, laid_due, layer_line, layers_due, with_layer}
-pub use Rattle.zv_layers.specs.Walks.{HoldsOf, entry_of, joined, laid_pairs, laid_rows, later, lengths, lists_left, next_of, pair_count, row_entry, weight_of}
+pub use Rattle.zv_layers.specs.Walks.{HoldsOf, entry_of, lengths, lists_left, next_of, pair_count, row_entry, weight_of}
 pub use Rattle.zv_layers.specs.declared.walk.Next.{Next}
 pub use Rattle.zv_map.specs.Iters.{left_of, pair_of}
 pub use Rattle.zv_map.specs.Maps.{IsMap, insert_entry, keys_of, look_up, values_of}
@@ -26,5 +26,6 @@ pub use Rattle.zv_map2d.specs.Keys.{Bytes}
 pub use Rattle.zv_map2d.specs.RowIters.{rows_left}
 pub use Rattle.zv_map2d.specs.Rows.{IsFlat, IsRow, IsWell, Rows, before, ends, ends_from, find, firsts, put, row, seconds, values}
 pub use Rattle.zv_map2d_laws.proofs.Kept.{own, place_of}
+pub use Rattle.zv_map2d_laws.specs.Overlays.{IsInOrder, joined, laid_pairs, laid_rows, later, overlay, triples}
 pub use Rattle.zv_owned.specs.Size.{size, takes_insert, takes_pushes}
 pub use Rattle.zv_ule.specs.Views.{element_of}

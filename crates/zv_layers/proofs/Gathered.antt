@@ -6,8 +6,8 @@ use Rattle.zv_layers.proofs.Common.{sum_by, sym, triples, values_of, weight_of, 
 use Rattle.std.proofs.lemmas.List.Concat.{flat_map-append, length-flat_map}
 use Rattle.std.proofs.lemmas.List.Elements.{All-from_get_or}
 use Rattle.zv_map2d.proofs.Flat.{before_within, end_at, length_ends, length_pick, view_of}
+use Rattle.zv_map2d_laws.proofs.Laid.{overlay_laid, puts_in_order}
 use Rattle.zv_layers.proofs.Laid.{Comes, none_left, took}
-use Rattle.zv_layers.proofs.Overlays.{overlay_laid, puts_in_order}
 
 -- ---- a row at the end
 

@@ -1,42 +1,18 @@
--- Entries laid over others.
+-- A walk over entries that are laid over others.
 use Rattle.zv_layers.proofs.Common.{◌+◌, ◌<◌, ◌∙◌, ◌∷◌, ◌≡◌, ◌≤◌, AllByRecursion, Bytes, Equal, Greater, HoldsOf, IsMap, Less, List, MatchOption, Next, None}
-use Rattle.zv_layers.proofs.Common.{Option, Ordering, Some, [], ap, arith, by_bytes, entry_of, exact_bytes, insert_entry, joined, lengths, look_up, next_of}
-use Rattle.zv_layers.proofs.Common.{refl, suc, sum_by, sum_by-cons, tied_itself, weight_of, zero, ℕ, ⊤}
+use Rattle.zv_layers.proofs.Common.{Option, Ordering, Some, [], ap, arith, by_bytes, entry_of, exact_bytes, joined, lengths, look_up, next_of}
+use Rattle.zv_layers.proofs.Common.{refl, suc, sum_by, sum_by-cons, weight_of, zero, ℕ}
 use Rattle.std.proofs.lemmas.Cmp.{nat_list_cmp_total as total}
 use Rattle.std.proofs.lemmas.Map.{lookup-none}
 use Rattle.std.proofs.lemmas.Map.Entries.{none_below_head}
 use Rattle.std.proofs.lemmas.Map.Keys.{sorted_tail}
 use Rattle.std.specs.BTreeMap.{is_at}
-use Rattle.std.specs.List.Sorted.{IsStrictlySortedBy}
 use Rattle.std.specs.Ordering.{ordering_reverse}
-use Rattle.zv_layers.specs.Walks.{laid, next_by, taken_by}
+use Rattle.zv_layers.specs.Walks.{next_by, taken_by}
 use Rattle.zv_layers.specs.declared.walk.Next.TheVariants.{Both, One}
 use Rattle.zv_map.proofs.Places.{IsMap-insert_entry}
-
--- nothing is said of each
-pub anything : {X : Type 0} (xs : List X) → AllByRecursion (λ x. ⊤) xs
-anything [] = tt
-anything (x ∷ xs) = (tt, anything xs)
-
--- what was put for a key gives way to what is put for it later
-pub again : {X : Type 0} (m : List (Bytes × X)) (k : Bytes) (x y : X) →
-    insert_entry by_bytes (insert_entry by_bytes m k x) k y ≡ insert_entry by_bytes m k y
-again [] k x y = rw (tied_itself total k) refl
-again (e ∷ m) k x y = let same = tied_itself total k in let more = again m k x y in grind arith
-
-module _ {X : Type 0} (join : X → X → X) where
-  -- what is below all that is laid stays first
-  past : (p : Bytes × X) (m es : List (Bytes × X)) → IsMap by_bytes (p ∷ es) → laid join (p ∷ m) es ≡ p ∷ laid join m es
-  unfolding IsStrictlySortedBy
-  past p m [] up = refl
-  past p m (e ∷ es) up =
-      let over : by_bytes e.0 p.0 ≡ Greater = total.antisymm e.0 p.0 ∙ ap ordering_reverse up.0.0 in
-      rw over (past p (insert_entry by_bytes m e.0 (joined join (look_up by_bytes m e.0) e.1)) es (up.0.1, up.1.1))
-
-  -- what is laid on nothing is left as it is
-  pub alone : (es : List (Bytes × X)) → IsMap by_bytes es → laid join [] es ≡ es
-  alone [] up = refl
-  alone (e ∷ es) up = past e [] es up ∙ ap (λ l. e ∷ l) (alone es (sorted_tail by_bytes _ _ up))
+use Rattle.zv_map2d_laws.proofs.Laid.{past}
+use Rattle.zv_map2d_laws.specs.Overlays.{laid}
 
 -- ---- a step of a walk over entries, of each of which P holds
 

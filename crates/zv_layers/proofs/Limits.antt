@@ -3,12 +3,11 @@ use Rattle.zv_layers.proofs.Common.{◌*◌, ◌+◌, ◌-◌, ◌<◌, ◌^◌,
 use Rattle.zv_layers.proofs.Common.{Rows, [], arith, by_bytes, field_is, firsts, keys_of, laid_pairs, laid_rows, later, length, lengths, none_well, overlay}
 use Rattle.zv_layers.proofs.Common.{refl, refusal, seconds, size, suc, sum_by, sum_by-cons, sum_by_push, values, values_of, with_layer, ℕ, ⊤}
 use Rattle.zv_edit.proofs.Lines.{asked_size}
+use Rattle.zv_map2d_laws.proofs.Laid.{anything, overlay_in_order, overlay_laid}
 use Rattle.zv_map2d_laws.proofs.Sizes.{image_holds}
 use Rattle.zv_map2d_laws.specs.Sizes.{wide_size}
 use Rattle.zv_owned.proofs.Sizes.{one_encoded, size_append}
-use Rattle.zv_layers.proofs.Found.{overlay_in_order}
-use Rattle.zv_layers.proofs.Laid.{anything, laid_weight}
-use Rattle.zv_layers.proofs.Overlays.{overlay_laid}
+use Rattle.zv_layers.proofs.Laid.{laid_weight}
 use Rattle.zv_layers.proofs.Refusals.{refusal_is, small_taken}
 
 -- ---- how many bytes pairs and rows take

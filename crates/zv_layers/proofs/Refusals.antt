@@ -22,10 +22,10 @@ use Rattle.zv_map2d.specs.declared.error.Map2dError.TheVariants.{Memory, TooLarg
 use Rattle.zv_map2d.specs.declared.place.Place.{Place}
 use Rattle.zv_map2d.specs.declared.place.Place.TheVariants.{InRow, NewRow, Pair}
 use Rattle.zv_map2d_laws.proofs.Checks.{held_fault}
+use Rattle.zv_map2d_laws.proofs.Laid.{over_none}
 use Rattle.zv_owned.proofs.Pushes.{several_taken}
 use Rattle.zv_owned.proofs.Sizes.{size_total}
 use Rattle.zv_layers.proofs.Gathered.{ends_below}
-use Rattle.zv_layers.proofs.Overlays.{over_none}
 
 -- ---- what a list takes
 

@@ -12,12 +12,12 @@ use Rattle.zv_map2d.specs.Image.{Stands, canon, fault}
 use Rattle.zv_map2d.specs.Rows.{Rows}
 use Rattle.zv_map2d.specs.Views.{Map2d}
 use Rattle.zv_map2d.specs.declared.error.EditError.{EditError}
+use Rattle.zv_map2d_laws.specs.Overlays.{overlay}
 use Rattle.zv_input.specs.Input.{field}
 use Rattle.zv_command.specs.Due.{Due, text_due}
 use Rattle.zv_command.specs.Text.{line}
 use Rattle.zv_command.specs.declared.status.Status.TheVariants.{BadImage, Done}
 use Rattle.zv_image.specs.Text.{cause_word, image_line}
-use Rattle.zv_layers.specs.Overlays.{overlay}
 use Rattle.zv_layers.specs.declared.form.Refusal.{Refusal}
 use Rattle.zv_layers.specs.declared.form.Refusal.TheVariants.{Fault, Memory}
 use Rattle.zv_layers.specs.declared.form.TheConstants.{MORE_LAYERS}

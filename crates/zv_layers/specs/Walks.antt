@@ -1,39 +1,13 @@
--- Entries laid over others, and a walk over both lists of them.
+-- A walk over two lists of entries, of which one is laid over the other.
 use Rattle.std.specs.Prelude.{ℕ, ◌+◌, List, [], ◌∷◌, length, Option, Some, None}
 use Rattle.std.specs.declared.cmp.Ordering.{Ordering}
 use Rattle.std.specs.declared.cmp.Ordering.TheVariants.{Less, Equal, Greater}
-use Rattle.zv_map.specs.Maps.{insert_entry, look_up}
 use Rattle.zv_map2d.specs.Image.{by_bytes}
 use Rattle.zv_map2d.specs.Keys.{Bytes}
-use Rattle.zv_map2d.specs.Rows.{Rows}
 use Rattle.zv_map2d.specs.Views.{Row}
 use Rattle.zv_layers.specs.declared.walk.Next.{Next}
 use Rattle.zv_layers.specs.declared.walk.Next.TheVariants.{One, Both}
 use Rattle.zv_layers.specs.declared.walk.Walk.{Walk}
-
--- what a key then has: what is put for it alone, or joined with what it had
-abbrev pub joined : {X : Type 0} → (X → X → X) → Option X → X → X
-joined join None new = new
-joined join (Some old) new = join old new
-
--- the entries after others were put among them, in order
-abbrev pub laid : {X : Type 0} → (X → X → X) → List (Bytes × X) → List (Bytes × X) →
-    List (Bytes × X)
-laid join m [] = m
-laid join m (e ∷ es) =
-    laid join (insert_entry by_bytes m e.0 (joined join (look_up by_bytes m e.0) e.1)) es
-
--- of values the later one counts
-abbrev pub later : {X : Type 0} → X → X → X
-later old new = new
-
--- of pairs
-abbrev pub laid_pairs : List (Bytes × Bytes) → List (Bytes × Bytes) → List (Bytes × Bytes)
-laid_pairs = laid later
-
--- of rows: both rows are joined
-abbrev pub laid_rows : Rows → Rows → Rows
-laid_rows = laid laid_pairs
 
 -- the entries from the one at hand on, if there is one
 abbrev pub ahead : {T E : Type 0} → (T → E) → Option T → List E → List E

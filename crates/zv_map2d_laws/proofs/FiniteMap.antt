@@ -1,7 +1,7 @@
 -- What is found in a map after a change, and that what is found is all of a map.
 use Rattle.zv_map2d.proofs.Common.{◌≡◌, ◌<◌, ◌&&◌, List, [], ◌∷◌, ◌++◌, length, Option, Some, None, refl, arith, IfSome, IsTotalOrder, AllByRecursion, keys_of}
-use Rattle.zv_map2d.proofs.Common.{values_of, look_up, Triple, put_all, Bytes, Order, Rows, IsWell, seconds, row, find, put, del}
-use Rattle.std.proofs.Common.{cond}
+use Rattle.zv_map2d.proofs.Common.{values_of, look_up, Triple, put_all, Bytes, Order, Rows, IsWell, firsts, seconds, row, find, put, del}
+use Rattle.std.proofs.Common.{Equal, cond}
 use Rattle.std.proofs.lemmas.Bool.Decides.{nat_tests}
 use Rattle.std.proofs.lemmas.List.Elements.{All-append, All-from_recursion, recursion_from_All}
 use Rattle.std.specs.Cmp.{tied_itself}
@@ -63,14 +63,24 @@ module _ (P : Bytes → Type 0) where
 same_row : (a b : Option (List (Bytes × Bytes))) → IfSome a (λ r. 0 < length r) → IfSome b (λ r. 0 < length r) → unwrap_or a [] ≡ unwrap_or b [] → a ≡ b
 same_row a b h k e = grind arith
 
+module _ {order0 order1 : Order} (total0 : IsTotalOrder order0) (total1 : IsTotalOrder order1) (P0 P1 : Bytes → Type 0)
+    (exact0 : (a b : Bytes) → P0 a → P0 b → order0 a b ≡ Equal → a ≡ b) (exact1 : (a b : Bytes) → P1 a → P1 b → order1 a b ≡ Equal → a ≡ b) where
+  pub same_found : (m n : Rows) → IsWell order0 order1 m → IsWell order0 order1 n → AllByRecursion P0 (firsts m) → AllByRecursion P0 (firsts n) →
+      AllByRecursion P1 (seconds m) → AllByRecursion P1 (seconds n) →
+      ((k0 k1 : Bytes) → P0 k0 → P1 k1 → find order0 order1 m k0 k1 ≡ find order0 order1 n k0 k1) → m ≡ n
+  same_found m n well_m well_n firsts_m firsts_n seconds_m seconds_n f =
+      let some = λ (z : Rows) (k0 : Bytes) (well : IsWell order0 order1 z).
+      look_up_holds order0 (λ r. 0 < length r) z k0 (values_all _ (λ r h. h.0) z well.1) in
+      let keys = λ (z : Rows) (k0 : Bytes) (all : AllByRecursion P1 (seconds z)). row_holds order0 _ z k0 (rows_keys _ z all) tt in
+      maps_alike total0 P0 exact0 m n well_m.0 well_n.0 firsts_m firsts_n
+      (λ k0 v. same_row (look_up order0 m k0) (look_up order0 n k0) (some m k0 well_m) (some n k0 well_n)
+      (maps_alike total1 P1 exact1 _ _ (row_ordered total0 total1 m k0 well_m) (row_ordered total0 total1 n k0 well_n)
+      (keys m k0 seconds_m) (keys n k0 seconds_n) (λ k1 w. f k0 k1 v w)))
+
 pub found_alike : FoundAlike
-found_alike order0 order1 fault0 fault1 total0 total1 exact0 exact1 m n well_m well_n keys_m keys_n f =
-    let some = λ (z : Rows) (k0 : Bytes) (well : IsWell order0 order1 z). look_up_holds order0 (λ r. 0 < length r) z k0 (values_all _ (λ r h. h.0) z well.1) in
-    let keys = λ (z : Rows) (k0 : Bytes) (all : AllByRecursion (IsElementOf fault1) (seconds z)). row_holds order0 _ z k0 (rows_keys _ z all) tt in
-    maps_alike total0 (IsElementOf fault0) (λ a b h k. exact0 a b h.bytes k.bytes h.valid k.valid) m n well_m.0 well_n.0 keys_m.firsts keys_n.firsts
-    (λ k0 v. same_row (look_up order0 m k0) (look_up order0 n k0) (some m k0 well_m) (some n k0 well_n)
-    (maps_alike total1 (IsElementOf fault1) (λ a b h k. exact1 a b h.bytes k.bytes h.valid k.valid) _ _ (row_ordered total0 total1 m k0 well_m)
-    (row_ordered total0 total1 n k0 well_n) (keys m k0 keys_m.seconds) (keys n k0 keys_n.seconds) (λ k1 w. f k0 k1 v w)))
+found_alike order0 order1 fault0 fault1 total0 total1 exact0 exact1 m n well_m well_n keys_m keys_n =
+    same_found total0 total1 (IsElementOf fault0) (IsElementOf fault1) (λ a b h k. exact0 a b h.bytes k.bytes h.valid k.valid)
+    (λ a b h k. exact1 a b h.bytes k.bytes h.valid k.valid) m n well_m well_n keys_m.firsts keys_n.firsts keys_m.seconds keys_n.seconds
 
 pub found_in_row : FoundInRow
 found_in_row order0 order1 m k0 k1 = grind arith

@@ -4,4 +4,5 @@ pub mod HeadRows
 pub mod ImageRows
 pub mod Laws
 pub mod Locales
+pub mod Overlays
 pub mod Sizes

@@ -17,6 +17,8 @@ ghost use Rattle.zv_map2d_laws.specs.Laws.{DelKeeps, EmptyStands, FitsAlike, Fra
 ghost use Rattle.zv_map2d_laws.specs.Laws.{IsReadExactly, OneSpelling, PutCodable, PutKeeps};
 ghost use Rattle.zv_map2d_laws.specs.Laws.{ReadsAsRows, SameCanon, StandsForOne};
 ghost use Rattle.zv_map2d_laws.specs.Locales.{Locales};
+ghost use Rattle.zv_map2d_laws.specs.Overlays.{Associative, EmptyOver, EmptyUnder, FoundInUpper};
+ghost use Rattle.zv_map2d_laws.specs.Overlays.{OnlyOverlay, OverItself, OverlayInOrder};
 ghost use Rattle.zv_map2d_laws.specs.Sizes.{DelShrinks, ImageHolds, PutGrows, SmallFits};
 
 /// Worked images. It does nothing.
@@ -94,6 +96,19 @@ pub fn finite_map()
     ensures del_well { DelIsWell }
     ensures alike { FoundAlike }
     ensures exact { TextsAreExact }
+{}
+
+/// One map laid over another is the only one that has for each pair of keys what the upper map has,
+/// or else what the lower one has. Of three it is the same which two are laid over one another
+/// first; a map over itself is itself, and so is one over or under the empty one. It does nothing.
+pub fn overlays()
+    ensures found { FoundInUpper }
+    ensures in_order { OverlayInOrder }
+    ensures only { OnlyOverlay }
+    ensures associative { Associative }
+    ensures itself { OverItself }
+    ensures empty_under { EmptyUnder }
+    ensures empty_over { EmptyOver }
 {}
 
 /// Worked changes. It does nothing.

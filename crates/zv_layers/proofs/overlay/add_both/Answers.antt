@@ -1,6 +1,7 @@
 use Rattle.zv_layers.proofs.Common.{◌∙◌, ◌∷◌, [], ap, arith, later, sym, with_pairs, ⊤}
 use Rattle.zv_layers.proofs.Gathered.{no_pairs, pair_added}
-use Rattle.zv_layers.proofs.Laid.{anything, none_left, took}
+use Rattle.zv_layers.proofs.Laid.{none_left, took}
+use Rattle.zv_map2d_laws.proofs.Laid.{anything}
 use Rattle.zv_layers.proofs.overlay.add_both.Goals as goal
 
 pub loop-next-smaller : goal.loop-next-smaller
