@@ -12,9 +12,9 @@ const BLOCK: usize = 1024;
 /// ranges may overlap.
 ///
 /// It takes time in proportion to `end - from`, and no memory but 1024 bytes of the stack. Bytes
-/// that move by 2 or 4, as the width of a field is, go by one call of the C library's `memmove`. Of
-/// others whole blocks of 1024 bytes go so, and what is left by `copy_within`, which is a loop over
-/// bytes and slower for many.
+/// that move by 1 to 8 go by one call of the C library's `memmove`: by the width of a field, or as
+/// what stands behind a text whose length changes a little. Of others whole blocks of 1024 bytes go
+/// so, and what is left by `copy_within`, which is a loop over bytes and slower for many.
 #[inline]
 pub fn copy_bytes(bytes: &mut [u8], from: usize, end: usize, to: usize)
     requires order { from ≤ end }
@@ -38,8 +38,14 @@ fn move_down(bytes: &mut [u8], from: usize, end: usize, to: usize)
     ensures { bytes.new ≡ copy_within bytes.old from end to }
 {
     match from - to {
+        1 => lower_by::<1>(bytes, end, to),
         2 => lower_by::<2>(bytes, end, to),
+        3 => lower_by::<3>(bytes, end, to),
         4 => lower_by::<4>(bytes, end, to),
+        5 => lower_by::<5>(bytes, end, to),
+        6 => lower_by::<6>(bytes, end, to),
+        7 => lower_by::<7>(bytes, end, to),
+        8 => lower_by::<8>(bytes, end, to),
         _ => copy_down(bytes, from, end, to),
     }
 }
@@ -53,8 +59,14 @@ fn move_up(bytes: &mut [u8], from: usize, end: usize, to: usize)
     ensures { bytes.new ≡ copy_within bytes.old from end to }
 {
     match to - from {
+        1 => raise_by::<1>(bytes, from, end),
         2 => raise_by::<2>(bytes, from, end),
+        3 => raise_by::<3>(bytes, from, end),
         4 => raise_by::<4>(bytes, from, end),
+        5 => raise_by::<5>(bytes, from, end),
+        6 => raise_by::<6>(bytes, from, end),
+        7 => raise_by::<7>(bytes, from, end),
+        8 => raise_by::<8>(bytes, from, end),
         _ => copy_up(bytes, from, end, to),
     }
 }

@@ -12,7 +12,7 @@ pub use Rattle.std.specs.Prelude.{⊤}
 pub use Rattle.zv_input.proofs.Fields.{field_is}
 pub use Rattle.zv_layers.specs.Columns.{AreInOrder, columns_of, rows_in, with_pairs, with_row}
 pub use Rattle.zv_layers.specs.Laws.{AreAccepted, NeverRefused}
-pub use Rattle.zv_layers.specs.Overlays.{refusal}
+pub use Rattle.zv_layers.specs.Refusals.{refusal}
 pub use Rattle.zv_layers.specs.Requests.{IsLaid, IsRefusalOf, Leaves, bytes_of_all, fault_or, first_fault, laid_due, layer_line, layers_due, with_layer}
 pub use Rattle.zv_layers.specs.Walks.{HoldsOf, entry_of, lengths, lists_left, next_of, pair_count, row_entry, weight_of}
 pub use Rattle.zv_layers.specs.declared.walk.Next.{Next}

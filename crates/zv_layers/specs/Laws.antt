@@ -5,7 +5,7 @@ use Rattle.zv_map2d.specs.Rows.{Rows}
 use Rattle.zv_map2d_laws.specs.Overlays.{overlay}
 use Rattle.zv_command.specs.Inputs.{request_of}
 use Rattle.zv_command.specs.declared.reader.TheConstants.{MAX_INPUT}
-use Rattle.zv_layers.specs.Overlays.{refusal}
+use Rattle.zv_layers.specs.Refusals.{refusal}
 use Rattle.zv_layers.specs.Requests.{with_layer}
 
 -- no overlay is refused, as image after image is laid over a map

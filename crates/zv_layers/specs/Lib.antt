@@ -1,5 +1,5 @@
 pub mod Columns
 pub mod Laws
-pub mod Overlays
+pub mod Refusals
 pub mod Requests
 pub mod Walks

@@ -53,7 +53,7 @@ impl<'m> Columns<'m> {
     ghost use Rattle.zv_map2d.specs.declared.error.Map2dError.{Map2dError};
     ghost use Rattle.zv_layers.specs.Columns.{AreInOrder, columns_of, rows_in};
     ghost use Rattle.zv_layers.specs.Columns.{with_end, with_pairs};
-    ghost use Rattle.zv_layers.specs.Overlays.{refusal};
+    ghost use Rattle.zv_layers.specs.Refusals.{refusal};
 
     /// The lists of no rows. It takes no memory yet.
     pub fn new(alloc: Global) -> Self

@@ -7,7 +7,7 @@ ghost use Rattle.zv_map2d.specs.Image.{by_bytes};
 ghost use Rattle.zv_map2d.specs.Rows.{IsRow, seconds};
 ghost use Rattle.zv_layers.specs.Columns.{AreInOrder, rows_in, with_pairs, with_row};
 ghost use Rattle.zv_map2d_laws.specs.Overlays.{laid_pairs, later, overlay};
-ghost use Rattle.zv_layers.specs.Overlays.{refusal};
+ghost use Rattle.zv_layers.specs.Refusals.{refusal};
 ghost use Rattle.zv_layers.specs.Walks.{HoldsOf, entry_of, pair_count};
 ghost use Rattle.zv_layers.specs.Walks.{row_entry, seen, weight_of};
 

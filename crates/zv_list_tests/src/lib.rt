@@ -1,4 +1,4 @@
-//! Tests of lists of either form, of their changes and of vectors, at concrete kinds.
+//! Tests of lists of either form, in each format, at concrete kinds.
 #![tactic(auto)]
 
 #[cfg(test)]
@@ -14,14 +14,4 @@ mod lists;
 #[cfg(test)]
 mod nested;
 #[cfg(test)]
-mod removals;
-#[cfg(test)]
 mod serialized;
-#[cfg(test)]
-mod shelves;
-#[cfg(test)]
-mod splices;
-#[cfg(test)]
-mod vectors;
-#[cfg(test)]
-mod widths;
