@@ -10,4 +10,6 @@ mod maps;
 #[cfg(test)]
 mod maps2d;
 #[cfg(test)]
+mod of_kinds;
+#[cfg(test)]
 mod tables;

@@ -1,5 +1,4 @@
-// Maps in one level in either form. Each kind of map has a function of any containers, since a
-// proof about the containers of a kind takes half a minute.
+// Maps in one level in either form, over any containers.
 
 use crate::framed;
 use crate::framed::errors::{NO_TEXTS, SHORT_NUMBER};
@@ -10,11 +9,9 @@ use std::process::Abort;
 use std::test::Fail;
 use zv_framed::{FormError, OneLayout};
 use zv_json::JsonError::TooLarge;
-use zv_map::{MutableZeroVecLike, ZeroMapKV};
+use zv_map::MutableZeroVecLike;
 use zv_map1::MapOver;
 use zv_ule::StrULE;
-
-type Of<'a, K> = <K as ZeroMapKV<'a>>::Container;
 
 // ---- maps of numbers to texts
 
@@ -143,18 +140,14 @@ where
     Ok(())
 }
 
-fn have_both<'a, C, D>(rt: &impl Abort, alloc: Global) -> Result<(), Fail>
+/// Maps of numbers to texts have both forms.
+pub(crate) fn have_both<'a, C, D>(rt: &impl Abort, alloc: Global) -> Result<(), Fail>
 where
     C: MutableZeroVecLike<'a, u32> + OneLayout<u32>,
     D: MutableZeroVecLike<'a, StrULE> + OneLayout<StrULE>,
 {
     have_frames::<C, D>(rt, alloc)?;
     have_texts::<C, D>(rt, alloc)
-}
-
-#[test]
-fn of_numbers_to_texts(rt: HostRuntime) -> Result<(), Fail> {
-    have_both::<Of<'_, u32>, Of<'_, StrULE>>(&rt, rt.alloc())
 }
 
 // ---- maps whose keys have no names
@@ -169,7 +162,8 @@ KeyOrder [[[2,2],"dos"],[[1,1],"uno"]]
 Shape {"1":"uno"}
 "#;
 
-fn are_arrays<'a, C, D>(rt: &impl Abort, alloc: Global) -> Result<(), Fail>
+/// Maps whose keys are pairs of numbers are arrays.
+pub(crate) fn are_arrays<'a, C, D>(rt: &impl Abort, alloc: Global) -> Result<(), Fail>
 where
     C: MutableZeroVecLike<'a, (u32, u32)>,
     D: MutableZeroVecLike<'a, StrULE>,
@@ -178,11 +172,6 @@ where
     let pairs = [((2, 2), "dos"), ((1, 1), "uno")];
     let map = Pairs::<C, D>::try_from_pairs(alloc, &pairs)?;
     is_written(rt, alloc, &map, "[[[1,1],\"uno\"],[[2,2],\"dos\"]]")
-}
-
-#[test]
-fn of_pairs_of_numbers(rt: HostRuntime) -> Result<(), Fail> {
-    are_arrays::<Of<'_, (u32, u32)>, Of<'_, StrULE>>(&rt, rt.alloc())
 }
 
 // ---- maps whose keys are numbers with a sign
@@ -195,14 +184,10 @@ BadKey {"-0":1}
 BadKey {"-01":1}
 "#;
 
-fn are_signed<'a, C: MutableZeroVecLike<'a, i8>>(
+/// Maps whose keys are numbers with a sign are objects.
+pub(crate) fn are_signed<'a, C: MutableZeroVecLike<'a, i8>>(
     rt: &impl Abort,
     alloc: Global,
 ) -> Result<(), Fail> {
     reads::<'_, MapOver<i8, i8, C, C>>(rt, alloc, SIGNED)
-}
-
-#[test]
-fn of_numbers_with_a_sign(rt: HostRuntime) -> Result<(), Fail> {
-    are_signed::<Of<'_, i8>>(&rt, rt.alloc())
 }

@@ -1,5 +1,4 @@
-// Maps in two levels in either form. Each kind of map has functions of any containers, since a
-// proof about the containers of a kind takes half a minute.
+// Maps in two levels in either form, over any containers.
 
 use crate::framed::errors::{NO_TEXTS, SHORT_NUMBER, ZERO_KEY};
 use crate::framed::{Fault, are_just};
@@ -10,11 +9,9 @@ use std::process::Abort;
 use std::test::Fail;
 use zv_forms::{JsonForm, ToJson};
 use zv_framed::{FormError, Framed, OneLayout};
-use zv_map::{MutableZeroVecLike, ZeroMapKV};
+use zv_map::MutableZeroVecLike;
 use zv_map2d::Map2dOver;
 use zv_ule::StrULE;
-
-type Of<'a, K> = <K as ZeroMapKV<'a>>::Container;
 
 // ---- maps of two numbers to texts
 
@@ -110,7 +107,8 @@ where
     Ok(())
 }
 
-fn have_both<'a, C0, C1, D>(rt: &impl Abort, alloc: Global) -> Result<(), Fail>
+/// Maps of two numbers to texts have both forms.
+pub(crate) fn have_both<'a, C0, C1, D>(rt: &impl Abort, alloc: Global) -> Result<(), Fail>
 where
     C0: MutableZeroVecLike<'a, u32> + OneLayout<u32>,
     C1: MutableZeroVecLike<'a, u16> + OneLayout<u16>,
@@ -119,11 +117,6 @@ where
     have_frames::<C0, C1, D>(rt, alloc, &[MAP2D, NONE])?;
     have_texts::<C0, C1, D>(rt, alloc)?;
     is_inserted::<C1, D>(rt, alloc)
-}
-
-#[test]
-fn of_numbers_to_texts(rt: HostRuntime) -> Result<(), Fail> {
-    have_both::<Of<'_, u32>, Of<'_, u16>, Of<'_, StrULE>>(&rt, rt.alloc())
 }
 
 // ---- maps whose keys are bytes that aren't 0
@@ -258,7 +251,8 @@ const FAULTS: &[Fault<'_>] = &[
     ),
 ];
 
-fn are_refused<'a, C, D>(rt: &impl Abort)
+/// Bytes are refused as a map whose keys are bytes that aren't 0.
+pub(crate) fn are_refused<'a, C, D>(rt: &impl Abort)
 where
     C: MutableZeroVecLike<'a, NonZeroU8> + OneLayout<NonZeroU8>,
     D: MutableZeroVecLike<'a, StrULE> + OneLayout<StrULE>,
@@ -267,9 +261,4 @@ where
         let read = Map2dOver::<'a, NonZeroU8, NonZeroU8, StrULE, C, C, D>::parse_framed(bytes);
         assert!(rt; read.err() == Some(*error), "{error}");
     }
-}
-
-#[test]
-fn of_faults(rt: HostRuntime) {
-    are_refused::<Of<'_, NonZeroU8>, Of<'_, StrULE>>(&rt);
 }

@@ -1,5 +1,4 @@
-// Hash tables in either form. What is said of them are functions of any containers, since a proof
-// about the containers of a kind takes half a minute.
+// Hash tables in either form, over any containers.
 
 use crate::framed::errors::{SHORT_NUMBER, SHORT_PAIR};
 use crate::framed::{Fault, are_just};
@@ -10,10 +9,8 @@ use std::test::Fail;
 use zv_forms::{JsonForm, ToJson};
 use zv_framed::{FormError, Framed, OneLayout};
 use zv_hashmap::HashMapOver;
-use zv_map::{MutableZeroVecLike, ZeroMapKV};
+use zv_map::MutableZeroVecLike;
 use zv_ule::StrULE;
-
-type Of<'a, K> = <K as ZeroMapKV<'a>>::Container;
 
 // Tables of numbers to texts.
 type Names<'a, C, D> = HashMapOver<'a, u32, StrULE, C, D>;
@@ -148,7 +145,8 @@ where
     is_text(rt, alloc, &table.to_json(alloc)?, TEXT)
 }
 
-fn have_both<'a, C, D>(rt: &impl Abort, alloc: Global) -> Result<(), Fail>
+/// Tables of numbers to texts have both forms.
+pub(crate) fn have_both<'a, C, D>(rt: &impl Abort, alloc: Global) -> Result<(), Fail>
 where
     C: MutableZeroVecLike<'a, u32> + OneLayout<u32>,
     D: MutableZeroVecLike<'a, StrULE> + OneLayout<StrULE>,
@@ -156,9 +154,4 @@ where
     have_frames::<C, D>(rt, alloc, &[TABLE, NONE], FAULTS)?;
     have_texts::<C, D>(rt, alloc)?;
     is_built::<C, D>(rt, alloc)
-}
-
-#[test]
-fn of_numbers_to_texts(rt: HostRuntime) -> Result<(), Fail> {
-    have_both::<Of<'_, u32>, Of<'_, StrULE>>(&rt, rt.alloc())
 }

@@ -5,14 +5,12 @@ use crate::refusal::{end, is_refused};
 use std::alloc::Global;
 use std::process::Abort;
 use std::test::Fail;
-use zv_map::{FlexULE, MutableZeroVecLike, ZeroMapKV};
-use zv_ule::{StrULE, ZvArg, ZvKind};
+use zv_map::MutableZeroVecLike;
+use zv_ule::{ZvArg, ZvKind};
 
-type Of<'a, K> = <K as ZeroMapKV<'a>>::Container;
-
-// What is asked of a list of one element.
+/// What is asked of a list of one element.
 #[derive(Clone, Copy)]
-enum Call {
+pub enum Call {
     Insert,
     Push,
     Replace,
@@ -22,8 +20,8 @@ enum Call {
     Copy,
 }
 
-// A call, and the bytes of the list that it leaves.
-type Row<'r> = (Call, &'r [u8]);
+/// A call, and the bytes of the list that it leaves.
+pub type Row<'r> = (Call, &'r [u8]);
 
 // Makes a call at the first place, and tells whether it is refused.
 fn is_call_refused<'a, T, C, Q>(
@@ -79,8 +77,8 @@ where
     end(is_refused)
 }
 
-// Makes each call on a borrowed list and on an owned one.
-fn try_calls<'a, T, C, Q>(
+/// Makes each call on a borrowed list and on an owned one.
+pub fn try_calls<'a, T, C, Q>(
     rt: &impl Abort,
     alloc: Global,
     before: &'a [u8],
@@ -101,10 +99,11 @@ where
     Ok(())
 }
 
-// The list of "a", and calls with "bc".
-const TEXT: &[u8] = b"\x01\0a";
+/// The list of "a".
+pub const TEXT: &[u8] = b"\x01\0a";
 
-const TEXTS: [Row<'static>; 7] = [
+/// Calls with "bc" on the list of "a".
+pub const TEXTS: [Row<'static>; 7] = [
     (Call::Insert, b"\x02\0\x02\0bca"),
     (Call::Push, b"\x02\0\x01\0abc"),
     (Call::Replace, b"\x01\0bc"),
@@ -114,10 +113,11 @@ const TEXTS: [Row<'static>; 7] = [
     (Call::Copy, TEXT),
 ];
 
-// The list of 1, and calls with 7.
-const NUMBER: &[u8] = b"\x01\0\0\0";
+/// The list of 1.
+pub const NUMBER: &[u8] = b"\x01\0\0\0";
 
-const NUMBERS: [Row<'static>; 7] = [
+/// Calls with 7 on the list of 1.
+pub const NUMBERS: [Row<'static>; 7] = [
     (Call::Insert, b"\x07\0\0\0\x01\0\0\0"),
     (Call::Push, b"\x01\0\0\0\x07\0\0\0"),
     (Call::Replace, b"\x07\0\0\0"),
@@ -126,19 +126,3 @@ const NUMBERS: [Row<'static>; 7] = [
     (Call::Own, NUMBER),
     (Call::Copy, NUMBER),
 ];
-
-#[test]
-fn texts_are_as_they_were(rt: HostRuntime) -> Result<(), Fail> {
-    try_calls::<StrULE, Of<'_, StrULE>, &str>(&rt, rt.alloc(), TEXT, &TEXTS, &"bc")
-}
-
-#[test]
-fn texts_of_either_form_are_as_they_were(rt: HostRuntime) -> Result<(), Fail> {
-    let alloc = rt.alloc();
-    try_calls::<FlexULE<StrULE>, Of<'_, FlexULE<StrULE>>, &str>(&rt, alloc, TEXT, &TEXTS, &"bc")
-}
-
-#[test]
-fn numbers_are_as_they_were(rt: HostRuntime) -> Result<(), Fail> {
-    try_calls::<u32, Of<'_, u32>, u32>(&rt, rt.alloc(), NUMBER, &NUMBERS, &7)
-}

@@ -13,6 +13,8 @@ mod maps;
 #[cfg(test)]
 mod maps2d;
 #[cfg(test)]
+mod of_kinds;
+#[cfg(test)]
 mod refusal;
 #[cfg(test)]
 mod tables;

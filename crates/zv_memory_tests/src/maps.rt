@@ -3,11 +3,9 @@ use crate::refusal::{end, is_refused};
 use std::alloc::Global;
 use std::process::Abort;
 use std::test::Fail;
-use zv_map::{MutableZeroVecLike, ZeroMapKV};
+use zv_map::MutableZeroVecLike;
 use zv_map1::{MapOver, ZeroMapBorrowed};
 use zv_ule::StrULE;
-
-type Of<'a, K> = <K as ZeroMapKV<'a>>::Container;
 
 // A map from numbers to names.
 type Names<C, D> = MapOver<u32, StrULE, C, D>;
@@ -113,8 +111,8 @@ const ROWS: [Row<'static>; 9] = [
     },
 ];
 
-// Makes each call.
-fn try_calls<'a, C, D>(rt: &impl Abort, alloc: Global) -> Result<(), Fail>
+/// Makes each call.
+pub fn try_calls<'a, C, D>(rt: &impl Abort, alloc: Global) -> Result<(), Fail>
 where
     C: MutableZeroVecLike<'a, u32>,
     D: MutableZeroVecLike<'a, StrULE>,
@@ -123,9 +121,4 @@ where
         try_call::<C, D>(rt, alloc, row)?;
     }
     Ok(())
-}
-
-#[test]
-fn maps_are_as_they_were(rt: HostRuntime) -> Result<(), Fail> {
-    try_calls::<Of<'_, u32>, Of<'_, StrULE>>(&rt, rt.alloc())
 }

@@ -3,21 +3,19 @@ use crate::refusal::{end, is_refused};
 use std::alloc::Global;
 use std::process::Abort;
 use std::test::Fail;
-use zv_map::{MutableZeroVecLike, ZeroMapKV};
+use zv_map::MutableZeroVecLike;
 use zv_map2d::Map2dOver;
 use zv_ule::StrULE;
 
-type Of<'a, K> = <K as ZeroMapKV<'a>>::Container;
-
 // A map from two numbers to a name.
-type Names<'a, C0, C1, D> = Map2dOver<'a, u16, u16, StrULE, C0, C1, D>;
+type Names<'a, C, D> = Map2dOver<'a, u32, u32, StrULE, C, C, D>;
 
 // What is asked of a map of (1, 2, "dos").
 #[derive(Clone, Copy)]
 enum Call {
-    Insert(u16, u16),
-    Append(u16, u16),
-    Remove(u16, u16),
+    Insert(u32, u32),
+    Append(u32, u32),
+    Remove(u32, u32),
     Room,
     RoomFor,
     Own,
@@ -34,15 +32,14 @@ struct Row<'r> {
 }
 
 // Makes a call, with the name "x" where it takes one, and tells whether it is refused.
-fn is_call_refused<'a, C0, C1, D>(
+fn is_call_refused<'a, C, D>(
     rt: &impl Abort,
     alloc: Global,
-    map: &mut Names<'a, C0, C1, D>,
+    map: &mut Names<'a, C, D>,
     call: Call,
 ) -> bool
 where
-    C0: MutableZeroVecLike<'a, u16>,
-    C1: MutableZeroVecLike<'a, u16>,
+    C: MutableZeroVecLike<'a, u32>,
     D: MutableZeroVecLike<'a, StrULE>,
 {
     match call {
@@ -57,10 +54,9 @@ where
 }
 
 // The map has these lists.
-fn has_lists<'a, C0, C1, D>(rt: &impl Abort, map: &Names<'a, C0, C1, D>, row: &Row<'_>)
+fn has_lists<'a, C, D>(rt: &impl Abort, map: &Names<'a, C, D>, row: &Row<'_>)
 where
-    C0: MutableZeroVecLike<'a, u16>,
-    C1: MutableZeroVecLike<'a, u16>,
+    C: MutableZeroVecLike<'a, u32>,
     D: MutableZeroVecLike<'a, StrULE>,
 {
     let parts = map.canon_parts();
@@ -72,20 +68,19 @@ where
 
 const BEFORE: Row<'static> = Row {
     call: Call::Own,
-    keys0: &[1, 0],
+    keys0: &[1, 0, 0, 0],
     joiner: &[1, 0, 0, 0],
-    keys1: &[2, 0],
+    keys1: &[2, 0, 0, 0],
     values: b"\x01\0dos",
 };
 
 // Makes a call on the map. It leaves these lists, or the map as it was.
-fn try_call<'a, C0, C1, D>(rt: &impl Abort, alloc: Global, row: &Row<'_>) -> Result<(), Fail>
+fn try_call<'a, C, D>(rt: &impl Abort, alloc: Global, row: &Row<'_>) -> Result<(), Fail>
 where
-    C0: MutableZeroVecLike<'a, u16>,
-    C1: MutableZeroVecLike<'a, u16>,
+    C: MutableZeroVecLike<'a, u32>,
     D: MutableZeroVecLike<'a, StrULE>,
 {
-    let mut map = Names::<'a, C0, C1, D>::new();
+    let mut map = Names::<'a, C, D>::new();
     map.insert(alloc, &1, &2, &"dos")?;
     let is_refused = is_call_refused(rt, alloc, &mut map, row.call);
     has_lists(rt, &map, if is_refused { &BEFORE } else { row });
@@ -95,37 +90,37 @@ where
 const ROWS: [Row<'static>; 10] = [
     Row {
         call: Call::Insert(0, 9),
-        keys0: &[0, 0, 1, 0],
+        keys0: &[0, 0, 0, 0, 1, 0, 0, 0],
         joiner: &[1, 0, 0, 0, 2, 0, 0, 0],
-        keys1: &[9, 0, 2, 0],
+        keys1: &[9, 0, 0, 0, 2, 0, 0, 0],
         values: b"\x02\0\x01\0xdos",
     },
     Row {
         call: Call::Insert(1, 3),
-        keys0: &[1, 0],
+        keys0: &[1, 0, 0, 0],
         joiner: &[2, 0, 0, 0],
-        keys1: &[2, 0, 3, 0],
+        keys1: &[2, 0, 0, 0, 3, 0, 0, 0],
         values: b"\x02\0\x03\0dosx",
     },
     Row {
         call: Call::Insert(1, 2),
-        keys0: &[1, 0],
+        keys0: &[1, 0, 0, 0],
         joiner: &[1, 0, 0, 0],
-        keys1: &[2, 0],
+        keys1: &[2, 0, 0, 0],
         values: b"\x01\0x",
     },
     Row {
         call: Call::Append(1, 3),
-        keys0: &[1, 0],
+        keys0: &[1, 0, 0, 0],
         joiner: &[2, 0, 0, 0],
-        keys1: &[2, 0, 3, 0],
+        keys1: &[2, 0, 0, 0, 3, 0, 0, 0],
         values: b"\x02\0\x03\0dosx",
     },
     Row {
         call: Call::Append(2, 2),
-        keys0: &[1, 0, 2, 0],
+        keys0: &[1, 0, 0, 0, 2, 0, 0, 0],
         joiner: &[1, 0, 0, 0, 2, 0, 0, 0],
-        keys1: &[2, 0, 2, 0],
+        keys1: &[2, 0, 0, 0, 2, 0, 0, 0],
         values: b"\x02\0\x03\0dosx",
     },
     Row {
@@ -150,20 +145,14 @@ const ROWS: [Row<'static>; 10] = [
     },
 ];
 
-// Makes each call.
-fn try_calls<'a, C0, C1, D>(rt: &impl Abort, alloc: Global) -> Result<(), Fail>
+/// Makes each call.
+pub fn try_calls<'a, C, D>(rt: &impl Abort, alloc: Global) -> Result<(), Fail>
 where
-    C0: MutableZeroVecLike<'a, u16>,
-    C1: MutableZeroVecLike<'a, u16>,
+    C: MutableZeroVecLike<'a, u32>,
     D: MutableZeroVecLike<'a, StrULE>,
 {
     for row in &ROWS {
-        try_call::<C0, C1, D>(rt, alloc, row)?;
+        try_call::<C, D>(rt, alloc, row)?;
     }
     Ok(())
-}
-
-#[test]
-fn maps_in_two_levels_are_as_they_were(rt: HostRuntime) -> Result<(), Fail> {
-    try_calls::<Of<'_, u16>, Of<'_, u16>, Of<'_, StrULE>>(&rt, rt.alloc())
 }

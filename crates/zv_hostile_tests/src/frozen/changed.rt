@@ -6,15 +6,14 @@ use std::alloc::Global;
 use std::process::Abort;
 use std::test::Fail;
 use zv_frozen::Frozen;
-use zv_map::FlexULE;
 use zv_map2d::ZeroMap2dBorrowed;
-use zv_ule::{SliceULE, StrULE};
+use zv_ule::{ZvKind, ZvOrd};
 
-// A map of texts that is borrowed.
-type Pairs<'m> = ZeroMap2dBorrowed<'m, FlexULE<StrULE>, FlexULE<StrULE>, FlexULE<SliceULE<u8>>>;
-
-// Whether a frozen image has these pairs and no others.
-fn has_pairs(frozen: &Frozen<'_>, map: Pairs<'_>) -> bool {
+// Whether a frozen image has the pairs of a map, whose keys are texts, and no others.
+fn has_pairs<K: ZvOrd, V: ZvKind>(
+    frozen: &Frozen<'_>,
+    map: ZeroMap2dBorrowed<'_, K, K, V>,
+) -> bool {
     let mut count = 0usize;
     for row in map.iter0() {
         let key0 = row.key0();
