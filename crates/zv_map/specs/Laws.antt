@@ -36,7 +36,7 @@ fixed_parts w K b h =
     (grind (arith, nat_tests, common_steps), grind (arith, nat_tests, common_steps))
 
 -- and the list is written as these bytes
-fixed_written : (w : ℕ) (K : List ℕ → Option UleError) (b : List ℕ) →
+pub fixed_written : (w : ℕ) (K : List ℕ → Option UleError) (b : List ℕ) →
     IsTrue (spells_in (Fixed w) K b) → b ≡ concat (chunks_of w b)
 fixed_written w K b h =
     let whole = div-add-mod' (length b) w in

@@ -1,15 +1,76 @@
 // The elements of a view, and the pairs of two views, in order.
 #![tactic(auto, using(crate::proofs::Ranges::pairs))]
 
-ghost use Rattle.std.specs.Prelude.{◌≡◌, ℕ, ◌≤◌, length, take, zip, slice_range, IfSome, Some};
+ghost use Rattle.std.specs.Prelude.{◌≡◌, ⊤, ℕ, ◌+◌, ◌<◌, ◌≤◌, length, take, zip, slice_range};
+ghost use Rattle.std.specs.Prelude.{IfSome, Some};
 ghost use Rattle.std.specs.Iterator.{UpTo, YieldsFirstBy, YieldsLastBy};
 ghost use Rattle.std.specs.Iterator.{item_count};
 ghost use Rattle.std.specs.Iterator.SizeHint.{IsWithinCount};
 ghost use Rattle.std.specs.List.{concat};
+ghost use Rattle.zv_map.specs.Keys.{nth};
 ghost use Rattle.zv_map.specs.Views.{list_of};
 
 use crate::view::KvSlice;
+use std::alloc::AllocError;
 use zv_ule::{VarRef, ZvKind};
+
+// ---- a view as it is walked over
+
+/// A view, how many elements it has, and their bytes: what each step of a walk over it needs. The
+/// iterators ask for them once.
+struct KvComponents<'l, T: ZvKind> {
+    list: KvSlice<'l, T>,
+    len: usize,
+    bytes: &'l [u8],
+    pub ghost count: { len ≡ length (list_of list) },
+    pub ghost joined: { bytes.now ≡ concat (list_of list) },
+}
+
+impl<T: ZvKind> Copy for KvComponents<'_, T> {}
+
+impl<T: ZvKind> Clone for KvComponents<'_, T> {
+    ghost is_clone = { λ v w. w ≡ v };
+
+    ghost is_infallible = { λ _. ⊤ };
+
+    /// A copy, which takes no memory.
+    #[inline]
+    fn clone(&self) -> Result<Self, AllocError> {
+        Ok(*self)
+    }
+}
+
+impl<'l, T: ZvKind> KvComponents<'l, T> {
+    ghost use Rattle.zv_ule.specs.Views.{element_of};
+
+    /// Where the element at a place ends among the bytes of all elements.
+    #[tactic(auto, using(crate::proofs::Pieces::last))]
+    #[inline]
+    fn end_of(self, index: usize) -> usize
+        requires { index < length (list_of self.list) }
+        ensures { result ≡ length (concat (take (index + 1) (list_of self.entry.list))) }
+    {
+        let next = index + 1;
+        if next == self.len {
+            self.bytes.len()
+        } else {
+            self.list.inner_offset(next)
+        }
+    }
+
+    /// The element at a place, and where it ends, where it is known where it starts. Of a list
+    /// whose elements have any lengths it reads one start.
+    #[inline]
+    fn element_from(self, index: usize, start: usize) -> (VarRef<'l, T>, usize)
+        requires place { index < length (list_of self.list) }
+        requires start { start ≡ length (concat (take index (list_of self.list))) }
+        ensures element { element_of result.0 ≡ nth (list_of self.entry.list) index }
+        ensures end { result.1 ≡ length (concat (take (index + 1) (list_of self.entry.list))) }
+    {
+        let end = self.end_of(index);
+        (VarRef::of_valid(&self.bytes[start..end]), end)
+    }
+}
 
 // ---- the elements of one view
 
@@ -18,9 +79,13 @@ use zv_ule::{VarRef, ZvKind};
 #[derive(Drop)]
 pub struct KvSliceIter<'l, T: ZvKind> {
     list: KvSlice<'l, T>,
+    len: usize,
+    bytes: &'l [u8],
     next: usize,
     start: usize,
     end: usize,
+    pub ghost count: { len ≡ length (list_of list) },
+    pub ghost joined: { bytes.now ≡ concat (list_of list) },
     pub ghost order: { next ≤ end },
     pub ghost within: { end ≤ length (list_of list) },
     pub ghost starts: { start ≡ length (concat (take next (list_of list))) },
@@ -40,11 +105,14 @@ impl<'l, T: ZvKind> KvSlice<'l, T> {
     pub fn iter(self) -> KvSliceIter<'l, T>
         ensures { elements_left result ≡ list_of self.entry }
     {
+        let len = self.len();
         KvSliceIter {
             list: self,
+            len,
+            bytes: self.elements_bytes(),
             next: 0,
             start: 0,
-            end: self.len(),
+            end: len,
         }
     }
 }
@@ -65,7 +133,12 @@ impl<'l, T: ZvKind> Iterator for KvSliceIter<'l, T> {
         if at == self.end {
             return None;
         }
-        let (element, start) = self.list.element_from(at, self.start);
+        let parts = KvComponents {
+            list: self.list,
+            len: self.len,
+            bytes: self.bytes,
+        };
+        let (element, start) = parts.element_from(at, self.start);
         self.next = at + 1;
         self.start = start;
         Some(element)
@@ -113,11 +186,19 @@ impl<T: ZvKind> ExactSizeIterator for KvSliceIter<'_, T> {
 #[derive(Drop)]
 pub struct ZeroMapIter<'l, K: ZvKind, V: ZvKind> {
     keys: KvSlice<'l, K>,
+    key_count: usize,
+    key_bytes: &'l [u8],
     values: KvSlice<'l, V>,
+    value_count: usize,
+    value_bytes: &'l [u8],
     next: usize,
     key_start: usize,
     value_start: usize,
     end: usize,
+    pub ghost counted_keys: { key_count ≡ length (list_of keys) },
+    pub ghost joined_keys: { key_bytes.now ≡ concat (list_of keys) },
+    pub ghost counted_values: { value_count ≡ length (list_of values) },
+    pub ghost joined_values: { value_bytes.now ≡ concat (list_of values) },
     pub ghost order: { next ≤ end },
     pub ghost keys_within: { end ≤ length (list_of keys) },
     pub ghost values_within: { end ≤ length (list_of values) },
@@ -140,7 +221,11 @@ impl<'l, K: ZvKind, V: ZvKind> ZeroMapIter<'l, K, V> {
     {
         ZeroMapIter {
             keys,
+            key_count: keys.len(),
+            key_bytes: keys.elements_bytes(),
             values,
+            value_count: values.len(),
+            value_bytes: values.elements_bytes(),
             next: start,
             key_start: keys.offset(start),
             value_start: values.offset(start),
@@ -173,8 +258,18 @@ impl<'l, K: ZvKind, V: ZvKind> Iterator for ZeroMapIter<'l, K, V> {
         if at == self.end {
             return None;
         }
-        let (key, key_start) = self.keys.element_from(at, self.key_start);
-        let (value, value_start) = self.values.element_from(at, self.value_start);
+        let keys = KvComponents {
+            list: self.keys,
+            len: self.key_count,
+            bytes: self.key_bytes,
+        };
+        let values = KvComponents {
+            list: self.values,
+            len: self.value_count,
+            bytes: self.value_bytes,
+        };
+        let (key, key_start) = keys.element_from(at, self.key_start);
+        let (value, value_start) = values.element_from(at, self.value_start);
         self.next = at + 1;
         self.key_start = key_start;
         self.value_start = value_start;

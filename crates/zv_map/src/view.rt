@@ -11,6 +11,7 @@ ghost use Rattle.zv_ule.specs.Views.{element_of};
 ghost use Rattle.zv_var.specs.Views.{list_of as elements_in};
 ghost use Rattle.zv_map.specs.Layouts.{list_in, spells_in, encoding_in};
 ghost use Rattle.zv_map.specs.Keys.{nth};
+ghost use Rattle.zv_map.specs.declared.view.Layout.TheVariants.{Fixed};
 
 use crate::vecs::ZeroVecLike;
 use std::alloc::AllocError;
@@ -108,6 +109,16 @@ fn chunk_start(_bytes: &[u8], width: usize, index: usize) -> usize
     ensures { result ≡ length (concat (take index (chunks_of width _bytes.now))) }
 {
     index * width
+}
+
+/// The chunks one after another, which are all bytes.
+#[inline]
+#[tactic(auto, using(crate::specs::Laws::fixed_written))]
+fn joined_chunks<T: ZvKind>(bytes: &[u8], _width: usize) -> &[u8]
+    requires { IsTrue (spells_in (Fixed _width) T.fault bytes.now) }
+    ensures { result.now ≡ concat (chunks_of _width bytes.now) }
+{
+    bytes
 }
 
 /// The chunk at a place, as an element.
@@ -274,28 +285,35 @@ impl<'b, T: ZvKind> KvSlice<'b, T> {
         }
     }
 
-    /// The element at a place, and where it ends, where it is known where it starts. Of a list
-    /// whose elements have any lengths it reads one start, where [`at`](Self::at) reads two.
+    /// Where the element at a place starts among the bytes of all elements, for an element that is
+    /// not the first. Of a list whose elements have any lengths it reads that start alone, where
+    /// [`offset`](Self::offset) reads the count too.
     #[inline]
-    pub fn element_from(self, index: usize, start: usize) -> (VarRef<'b, T>, usize)
+    pub fn inner_offset(self, index: usize) -> usize
+        requires later { 0 < index }
         requires place { index < length (list_of self) }
-        requires start { start ≡ length (concat (take index (list_of self))) }
-        ensures element { element_of result.0 ≡ nth (list_of self.entry) index }
-        ensures end { result.1 ≡ length (concat (take (index + 1) (list_of self.entry))) }
+        ensures { result ≡ length (concat (take index (list_of self.entry))) }
     {
         match self.layout {
-            Layout::Fixed(width) => {
-                let end = chunk_start(self.bytes, width, index + 1);
-                (element_at(self.bytes, width, index), end)
-            }
+            Layout::Fixed(width) => chunk_start(self.bytes, width, index),
             Layout::Index16 => {
-                let list = VarZeroSlice::<T, Index16>::of_valid(self.bytes);
-                list.components().element_from(index, start)
+                VarZeroSlice::<T, Index16>::of_valid(self.bytes).inner_offset(index)
             }
             Layout::Index32 => {
-                let list = VarZeroSlice::<T, Index32>::of_valid(self.bytes);
-                list.components().element_from(index, start)
+                VarZeroSlice::<T, Index32>::of_valid(self.bytes).inner_offset(index)
             }
+        }
+    }
+
+    /// The bytes of all elements, one after another.
+    #[inline]
+    pub fn elements_bytes(self) -> &'b [u8]
+        ensures { result.now ≡ concat (list_of self.entry) }
+    {
+        match self.layout {
+            Layout::Fixed(width) => joined_chunks::<T>(self.bytes, width),
+            Layout::Index16 => VarZeroSlice::<T, Index16>::of_valid(self.bytes).elements_bytes(),
+            Layout::Index32 => VarZeroSlice::<T, Index32>::of_valid(self.bytes).elements_bytes(),
         }
     }
 
