@@ -1,5 +1,5 @@
-// Maps of either level and hash tables at the containers of kinds. They meet in few functions, since
-// a proof about the containers of a kind takes half a minute.
+// Maps of either level and hash tables at the containers of kinds. They meet in few functions,
+// since a proof about the containers of a kind takes half a minute.
 
 use crate::{maps, maps2d, tables};
 use std::alloc::Global;

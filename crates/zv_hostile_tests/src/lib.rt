@@ -1,12 +1,10 @@
-//! The program over devices that fail, images and tables that are malformed, and frozen images.
+//! The program over devices that fail, and images and tables that are malformed.
 #![tactic(auto)]
 
 #[cfg(test)]
 mod devices;
 #[cfg(test)]
 mod forms;
-#[cfg(test)]
-mod frozen;
 #[cfg(test)]
 mod hash_tables;
 #[cfg(test)]

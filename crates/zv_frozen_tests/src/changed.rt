@@ -1,7 +1,7 @@
 // A frozen image of which one byte is changed is refused, or has what it stores.
 ghost use Rattle.std.specs.Prelude.{◌<◌};
 
-use crate::frozen::few::FROZEN;
+use crate::few::FROZEN;
 use std::alloc::Global;
 use std::process::Abort;
 use std::test::Fail;
